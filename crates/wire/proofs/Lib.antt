@@ -1,0 +1,4 @@
+pub mod Le
+pub mod Be
+pub mod Over
+pub mod Fields

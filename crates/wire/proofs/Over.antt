@@ -1,0 +1,113 @@
+-- The laws of `overwrite` and `Wrote`. Assumes nothing.
+use mathlib.Core.Path.{_≡_, refl, sym, ap, ap₂, _∙_}
+use mathlib.Core.List.{List, [], _∷_, _++_, append-assoc}
+use Prim.Native.Nat.{ℕ, zero, suc, _+_, _-_, _*_, _/_, _%_, _^_, _≤_, _<_, min}
+use native.Mathlib.Nat.{suc-add, add-suc, add-zero, lt-of-not-le, le-of-lt}
+use native.Mathlib.Decide.{decLe}
+use native.Mathlib.Omega.{arith}
+use native.Mathlib.Numerals.{add-one}
+use lib.ListN.{length, take, drop, set, getD, length-set, length-append, take-append-drop}
+use lib.Seq.{sets, sets-eq, set-out, take-suc, take-all, length-take-le}
+use Rattle.wire.specs.Over.{overwrite, Wrote}
+
+pub length-over : (xs l : List ℕ) (at : ℕ) → length (overwrite l at xs) ≡ length l
+unfolding overwrite
+length-over [] l at = refl
+length-over (x ∷ xs) l at = length-over xs (set l at x) (suc at) ∙ length-set l at x
+
+-- one run after another is one run
+pub over-cat : (xs ys l : List ℕ) (at : ℕ) → overwrite (overwrite l at xs) (at + length xs) ys ≡ overwrite l at (xs ++ ys)
+unfolding overwrite
+over-cat [] ys l at = rw add-zero
+over-cat (x ∷ xs) ys l at = rw (add-suc, ← suc-add at (length xs)) (over-cat xs ys (set l at x) (suc at))
+
+-- past the end nothing is written
+pub over-out : (xs l : List ℕ) (at : ℕ) → length l ≤ at → overwrite l at xs ≡ l
+unfolding overwrite
+over-out [] l at h = refl
+over-out (x ∷ xs) l at h = rw (set-out l at x h) (over-out xs l (suc at) (omega arith))
+
+is-sets : (xs l : List ℕ) (at : ℕ) → overwrite l at xs ≡ sets l at xs
+unfolding overwrite
+is-sets [] l at = refl
+is-sets (x ∷ xs) l at = is-sets xs (set l at x) (suc at)
+
+-- with room for xs: what stood before it, xs, and what stood behind it
+pub over-eq : (xs l : List ℕ) (at : ℕ) → at + length xs ≤ length l → overwrite l at xs ≡ take at l ++ xs ++ drop (at + length xs) l
+over-eq xs l at h = is-sets xs l at ∙ sets-eq xs l at h
+
+split {ℓ} : {X : Type ℓ} (a b : ℕ) → (a ≤ b → X) → (b < a → X) → X
+split a b f g = elim (decLe a b) [ yes h ↦ f h | no h ↦ g (lt-of-not-le h) ]
+
+-- the place behind xs, or the end: what is written there is the same
+over-min : (ys l : List ℕ) (at : ℕ) → overwrite l (min at (length l)) ys ≡ overwrite l at ys
+over-min ys l at =
+    split at (length l)
+    (λ h. let e : min at (length l) ≡ at = omega arith in rw e)
+    (λ h. let e : min at (length l) ≡ length l = omega arith in
+    rw e (over-out ys l (length l) (omega arith) ∙ sym (over-out ys l at (omega arith))))
+
+-- one write after another is one write
+pub then : {l m n : List ℕ} {at to end : ℕ} {xs ys : List ℕ} → Wrote l at xs m to → Wrote m to ys n end → Wrote l at (xs ++ ys) n end
+then {l} {m} {at = at} {to = to} {xs = xs} {ys = ys} w v =
+    let long : length m ≡ length l = ap length (w .bytes) ∙ length-over xs l at in
+    let there : min (at + length xs) (length m) ≡ to = sym (w .place ∙ ap (min (at + length xs)) (sym long)) in
+    let same : overwrite m to ys ≡ overwrite m (at + length xs) ys = rw there at (over-min ys m (at + length xs)) in
+    let all : overwrite m (at + length xs) ys ≡ overwrite l at (xs ++ ys) = rw (w .bytes) (over-cat xs ys l at) in
+    record { place = omega (arith, v .place, w .place, length-append xs ys); bytes = v .bytes ∙ same ∙ all }
+
+-- the bytes, said another way
+pub wrote-as : {l m : List ℕ} {at to : ℕ} {xs ys : List ℕ} → Wrote l at xs m to → xs ≡ ys → Wrote l at ys m to
+wrote-as w e = rw (sym e) w
+
+-- nothing was written, past the end
+pub wrote-out : (l : List ℕ) (at : ℕ) (xs : List ℕ) {to : ℕ} → length l ≤ at → to ≡ length l → Wrote l at xs l to
+wrote-out l at xs h e = record { place = e ∙ omega arith; bytes = sym (over-out xs l at h) }
+
+-- what follows lies past the end
+pub wrote-short : {l m : List ℕ} {at to : ℕ} {xs : List ℕ} (ys : List ℕ) → Wrote l at xs m to → length l ≤ at + length xs → Wrote l at (xs ++ ys) m to
+wrote-short {l} {m} {at} {to} {xs} ys w h =
+    let long : length m ≡ length l = ap length (w .bytes) ∙ length-over xs l at in
+    then w (wrote-out m to ys (omega (arith, w .place)) (omega (arith, w .place)))
+
+-- one byte was stored
+pub stored : (l : List ℕ) (at x : ℕ) {to : ℕ} → at < length l → to ≡ at + 1 → Wrote l at (x ∷ []) (set l at x) to
+unfolding overwrite
+stored l at x h e = record { place = omega arith; bytes = refl }
+
+-- two bytes, and four
+pub stored-two : (l : List ℕ) (at a b : ℕ) → at + 2 ≤ length l → Wrote l at (a ∷ b ∷ []) (set (set l at a) (at + 1) b) (at + 2)
+stored-two l at a b h =
+    then (stored l at a (omega arith) refl) (stored (set l at a) (at + 1) b (omega (arith, length-set l at a)) (omega arith))
+
+pub stored-four : (l : List ℕ) (at a b c d : ℕ) → at + 4 ≤ length l
+    → Wrote l at (a ∷ b ∷ c ∷ d ∷ []) (set (set (set (set l at a) (at + 1) b) (at + 2) c) (at + 3) d) (at + 4)
+stored-four l at a b c d h =
+    let m : List ℕ = set (set l at a) (at + 1) b in
+    let long : length m ≡ length l = length-set (set l at a) (at + 1) b ∙ length-set l at a in
+    then (stored-two l at a b (omega arith))
+    (then {to = at + 3} (stored m (at + 2) c (omega arith) (omega arith)) (stored (set m (at + 2) c) (at + 3) d (omega (arith, length-set m (at + 2) c)) (omega arith)))
+
+-- one byte more of a run
+pub over-more : (src l : List ℕ) (at i : ℕ) → i < length src → set (overwrite l at (take i src)) (at + i) (getD src i 0) ≡ overwrite l at (take (i + 1) src)
+unfolding overwrite
+over-more src l at i h =
+    let long : length (take i src) ≡ i = length-take-le i src (omega arith) in
+    let e : overwrite (overwrite l at (take i src)) (at + length (take i src)) (getD src i 0 ∷ []) ≡ overwrite l at (take i src ++ (getD src i 0 ∷ [])) = over-cat (take i src) (getD src i 0 ∷ []) l at in
+    rw (add-one, take-suc src i 0 h) (rw long at e)
+
+-- of a run, what has room was written
+pub wrote-room : (src l m : List ℕ) (at n : ℕ) {to : ℕ} → n ≡ min (length src) (length l - at) → m ≡ overwrite l at (take n src)
+    → to ≡ min (at + length src) (length l) → Wrote l at src m to
+wrote-room src l m at n e w p =
+    let long : length (take n src) ≡ n = length-take-le n src (omega arith) in
+    let all : take n src ++ drop n src ≡ src = take-append-drop n src in
+    let here : Wrote l at (take n src) m (min (at + length (take n src)) (length l)) = record { place = refl; bytes = w } in
+    split (length l) (at + n)
+    (λ h. record { place = p; bytes = wrote-as (wrote-short (drop n src) here (omega arith)) all .bytes })
+    (λ h. let whole : take n src ≡ src = take-all n src (omega arith) in record { place = p; bytes = w ∙ rw whole })
+
+-- nothing was to be written
+pub wrote-none : (l : List ℕ) (at : ℕ) → at ≤ length l → Wrote l at [] l at
+unfolding overwrite
+wrote-none l at h = record { place = omega arith; bytes = refl }
