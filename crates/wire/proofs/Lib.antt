@@ -2,3 +2,4 @@ pub mod Le
 pub mod Be
 pub mod Over
 pub mod Fields
+pub mod Parts

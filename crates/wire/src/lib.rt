@@ -7,6 +7,30 @@ ghost use lib.ListN.{length, drop};
 ghost use Rattle.wire.specs.Le.{leAt, le};
 ghost use Rattle.wire.specs.Be.{beAt, be};
 ghost use Rattle.wire.specs.Over.{Wrote};
+ghost use Rattle.wire.specs.Part.{bytesOf};
+
+// A part of some bytes (document 01's term): where it starts in them, and how many there are.
+pub struct Part {
+    pub start: usize,
+    pub len: usize,
+}
+
+// The part of s, as a slice; what lies past the end of s is left out.
+pub fn part_of(s: &[u8], part: Part) -> &[u8]
+    ensures { λ r. ⌜ now r ≡ bytesOf (now (s .entry)) part ⌝ }
+{
+    let start = part.start;
+    let len = part.len;
+    let rest = left(s, start);
+    if rest == 0 {
+        return &s[..0];
+    }
+    if rest < len {
+        return &s[start..];
+    }
+    let end = start + len;
+    &s[start..end]
+}
 
 // How many bytes stand from a place on.
 pub fn left(s: &[u8], at: usize) -> usize
