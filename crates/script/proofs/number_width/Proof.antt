@@ -1,0 +1,24 @@
+-- `script::number_width` meets its contract. Assumes nothing.
+use borrow.Author.Tests.{ne-eqb}
+use Rattle.script.specs.Shape.{numberWidth}
+use Rattle.script.proofs.number_width.Statement.{statement}
+use Rattle.script.proofs.number_width.Tie as tie
+
+returns : tie.Need-returns
+unfolding numberWidth
+returns c = rw (c .match .keys1)
+
+returns-2 : tie.Need-returns-2
+unfolding numberWidth
+returns-2 c = rw (c .match .keys2)
+
+returns-3 : tie.Need-returns-3
+unfolding numberWidth
+returns-3 c = rw (c .match .keys3)
+
+returns-4 : tie.Need-returns-4
+unfolding numberWidth
+returns-4 c = simp (ne-eqb _ _ (c .match .rest .0 .0 .1), ne-eqb _ _ (c .match .rest .0 .1), ne-eqb _ _ (c .match .rest .1))
+
+pub number-width-spec : {M : Type 1} → statement M
+number-width-spec = tie.close (tie.spec returns returns-2 returns-3 returns-4)

@@ -1,0 +1,101 @@
+-- The tokens of a reply (MS-TDS 2.2.7) and their bytes, as a builder sends them and as a reader understands them.
+-- Rests on wire's fields and text's counts.
+use Prim.Native.Nat.{ℕ, _+_, _-_, _/_, _^_}
+use mathlib.Core.List.{List, [], _∷_, _++_}
+use mathlib.Core.Bool.{cond, _||_}
+use lib.IntN.{ℤ, pos, negsuc}
+use lib.ListN.{length}
+use lib.Dec.{eqb, ltb}
+use Rattle.wire.specs.Fields.{Field, word, raw, flat}
+use Rattle.text.specs.Surrogates.{characters}
+use Rattle.token.specs.Types.{lengthWidth, collationSize}
+
+-- a token whose cells are of the type C: COLMETADATA and each of its columns, ROW and each of its cells, DONE, and
+-- ERROR or INFO by its first byte; texts are bytes
+pub data Token (C : Type 0) : Type 0 where
+  metadata : (count : ℕ) → Token C
+  column : (userType flags code limit : ℕ) (collation name : List ℕ) → Token C
+  row : Token C
+  cell : C → Token C
+  done : (status command count : ℕ) → Token C
+  message : (kind number state class : ℕ) (text server procedure : List ℕ) (line : ℕ) → Token C
+
+-- a cell as it is sent: an integer of w bytes, a bounded text, a Max value in chunks, and the nulls of integers and of Max values
+pub data Sent : Type 0 where
+  integer : (w n : ℕ) → Sent
+  noInteger : Sent
+  bounded : List ℕ → Sent
+  long : List (List ℕ) → Sent
+  noLong : Sent
+
+-- a cell's value: number, part, null (document 01)
+pub data Value : Type 0 where
+  number : ℤ → Value
+  part : List ℕ → Value
+  null : Value
+
+-- the number that w bytes stand for: one byte without a sign, more with it
+unfoldable pub signed : ℕ → ℕ → ℤ
+signed w n = cond (eqb w 1 || ltb n (256 ^ w / 2)) (pos n) (negsuc (256 ^ w - 1 - n))
+
+-- chunks' bytes joined
+abbrev pub joined : List (List ℕ) → List ℕ
+joined [] = []
+joined (c ∷ cs) = c ++ joined cs
+
+-- what a cell that is sent states
+abbrev pub valueOf : Sent → Value
+valueOf (integer w n) = number (signed w n)
+valueOf noInteger = null
+valueOf (bounded x) = part x
+valueOf (long cs) = part (joined cs)
+valueOf noLong = null
+
+-- what a token that is sent states
+abbrev pub states : Token Sent → Token Value
+states (metadata n) = metadata n
+states (column u f c l o n) = column u f c l o n
+states row = row
+states (cell v) = cell (valueOf v)
+states (done s c n) = done s c n
+states (message k n s c t v p l) = message k n s c t v p l
+
+-- ---- bytes, as fields before those that follow
+
+-- the chunks of a Max value, each with its length, and the zero length that ends them
+abbrev pub putChunks : List (List ℕ) → List Field → List Field
+putChunks [] fs = word 4 0 ∷ fs
+putChunks (c ∷ cs) fs = word 4 (length c) ∷ raw c ∷ putChunks cs fs
+
+abbrev pub putCell : Sent → List Field → List Field
+putCell (integer w n) fs = word 1 w ∷ word w n ∷ fs
+putCell noInteger fs = word 1 0 ∷ fs
+putCell (bounded x) fs = word 2 (length x) ∷ raw x ∷ fs
+putCell (long cs) fs = word 8 (length (joined cs)) ∷ putChunks cs fs
+putCell noLong fs = word 8 0xFFFFFFFFFFFFFFFF ∷ fs
+
+-- the units of a text
+abbrev pub unitCount : List ℕ → ℕ
+unitCount x = length x / 2
+
+-- the count before a column's name: characters, as the Rust writes it, where MS-TDS has units
+unfoldable pub nameCount : List ℕ → ℕ
+nameCount name = characters name
+
+-- the length of a message: what follows the length itself
+unfoldable pub messageLength : List ℕ → List ℕ → List ℕ → ℕ
+messageLength text server procedure = 14 + length text + length server + length procedure
+
+abbrev pub put : Token Sent → List Field → List Field
+put (metadata n) fs = word 1 0x81 ∷ word 2 n ∷ fs
+put (column u f c l o n) fs = word 4 u ∷ word 2 f ∷ word 1 c ∷ word (lengthWidth c) l ∷ raw o ∷ word 1 (nameCount n) ∷ raw n ∷ fs
+put row fs = word 1 0xD1 ∷ fs
+put (cell v) fs = putCell v fs
+put (done s c n) fs = word 1 0xFD ∷ word 2 s ∷ word 2 c ∷ word 8 n ∷ fs
+put (message k n s c t v p l) fs =
+    word 1 k ∷ word 2 (messageLength t v p) ∷ word 4 n ∷ word 1 s ∷ word 1 c
+    ∷ word 2 (unitCount t) ∷ raw t ∷ word 1 (unitCount v) ∷ raw v ∷ word 1 (unitCount p) ∷ raw p ∷ word 4 l ∷ fs
+
+-- the bytes of a token
+unfoldable pub bytesOf : Token Sent → List ℕ
+bytesOf t = flat (put t [])
