@@ -1,4 +1,4 @@
--- The laws of `flat`: its length, and one field written after another. Assumes nothing.
+-- The laws of `flat`: its length, and fields before others. Assumes nothing.
 use mathlib.Core.Path.{_≡_, refl, sym, ap, _∙_}
 use mathlib.Core.List.{List, [], _∷_, _++_, append-assoc}
 use Prim.Native.Nat.{ℕ, _+_}

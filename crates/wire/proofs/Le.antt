@@ -1,7 +1,7 @@
 -- The laws of `leAt` and `le`, at any width: a number of j + k bytes is one of j bytes and one of k.
 -- Assumes nothing.
 use mathlib.Core.Path.{_≡_, refl, sym, ap, ap₂, _∙_}
-use mathlib.Core.List.{List, [], _∷_, _++_}
+use mathlib.Core.List.{List, [], _∷_, _++_, append-nil}
 use Prim.Native.Nat.{ℕ, zero, suc, _+_, _*_, _/_, _%_, _^_, _≤_, _<_}
 use native.Mathlib.Nat.{zero-add, suc-add, zero-mul, add-mul, mul-assoc, add-assoc, pow-suc, one-le-pow, div-one, div-div-eq-div-mul, mul-comm, mod-lt, zero-lt-suc, mul-one, add-zero, mod-one, mod-eq-of-lt}
 use native.Mathlib.Omega.{arith}
@@ -78,6 +78,13 @@ le-split (suc j) k v =
     let hi : v % (m * 256) / 256 ≡ v / 256 % m = ap (λ (x : ℕ). x / 256) e ∙ digits-div _ (mod-lt v (zero-lt-suc 255)) in
     let up : v / (m * 256) ≡ v / 256 / m = ap (λ (x : ℕ). v / x) (mul-comm m 256) ∙ sym (div-div-eq-div-mul v 256 m) in
     rw (suc-add, le-split j k (v / 256), pow-suc 256 j, lo, hi, up)
+
+-- only the k low bytes count
+pub le-mod : (k v : ℕ) → le k (v % 256 ^ k) ≡ le k v
+unfolding le
+le-mod k v =
+    let e = le-split k 0 v in
+    sym (append-nil (le k (v % 256 ^ k))) ∙ sym (rw add-zero at e)
 
 -- what was written is read back
 pub le-back : (k v : ℕ) (rest : List ℕ) → leAt k (le k v ++ rest) ≡ v % 256 ^ k

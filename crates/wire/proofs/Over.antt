@@ -107,7 +107,9 @@ wrote-room src l m at n e w p =
     (λ h. record { place = p; bytes = wrote-as (wrote-short (drop n src) here (omega arith)) all .bytes })
     (λ h. let whole : take n src ≡ src = take-all n src (omega arith) in record { place = p; bytes = w ∙ rw whole })
 
--- nothing was to be written
-pub wrote-none : (l : List ℕ) (at : ℕ) → at ≤ length l → Wrote l at [] l at
+-- nothing more is written behind a write: under `unfolding flat` a run of writers is `then w1 (then w2 (.. (then wn (ended wn))))`
+pub ended : {l m : List ℕ} {at to : ℕ} {xs : List ℕ} → Wrote l at xs m to → Wrote m to [] m to
 unfolding overwrite
-wrote-none l at h = record { place = omega arith; bytes = refl }
+ended {l} {m} {at} {xs = xs} w =
+    let long : length m ≡ length l = ap length (w .bytes) ∙ length-over xs l at in
+    record { place = omega (arith, w .place); bytes = refl }
