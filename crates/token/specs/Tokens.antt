@@ -7,7 +7,6 @@ use lib.IntN.{ℤ, pos, negsuc}
 use lib.ListN.{length}
 use lib.Dec.{eqb, ltb}
 use Rattle.wire.specs.Fields.{Field, word, raw, flat}
-use Rattle.text.specs.Surrogates.{characters}
 use Rattle.token.specs.Types.{lengthWidth, collationSize}
 
 -- a token whose cells are of the type C: COLMETADATA and each of its columns, ROW and each of its cells, DONE, and
@@ -80,21 +79,35 @@ unitCount x = length x / 2
 
 -- the count before a column's name: characters, as the Rust writes it, where MS-TDS has units
 unfoldable pub nameCount : List ℕ → ℕ
-nameCount name = characters name
+nameCount name = unitCount name
 
 -- the length of a message: what follows the length itself
 unfoldable pub messageLength : List ℕ → List ℕ → List ℕ → ℕ
 messageLength text server procedure = 14 + length text + length server + length procedure
 
+-- US_VARCHAR and B_VARCHAR (MS-TDS 2.2.5.1.2): a text behind its count of units, in two bytes and in one
+abbrev pub usVarchar : List ℕ → List Field → List Field
+usVarchar t fs = word 2 (unitCount t) ∷ raw t ∷ fs
+
+abbrev pub bVarchar : List ℕ → List Field → List Field
+bVarchar t fs = word 1 (unitCount t) ∷ raw t ∷ fs
+
+-- a message up to its texts
+abbrev pub messageHead : ℕ → ℕ → ℕ → ℕ → ℕ → List Field → List Field
+messageHead kind size n state class fs = word 1 kind ∷ word 2 size ∷ word 4 n ∷ word 1 state ∷ word 1 class ∷ fs
+
+-- TYPE_INFO behind user type 0 and flags 0, as far as every type has it: the code and the length
+abbrev pub typeFields : ℕ → ℕ → ℕ → ℕ → List Field → List Field
+typeFields u f code limit fs = word 4 u ∷ word 2 f ∷ word 1 code ∷ word (lengthWidth code) limit ∷ fs
+
 abbrev pub put : Token Sent → List Field → List Field
 put (metadata n) fs = word 1 0x81 ∷ word 2 n ∷ fs
-put (column u f c l o n) fs = word 4 u ∷ word 2 f ∷ word 1 c ∷ word (lengthWidth c) l ∷ raw o ∷ word 1 (nameCount n) ∷ raw n ∷ fs
+put (column u f c l o n) fs = typeFields u f c l (raw o ∷ word 1 (nameCount n) ∷ raw n ∷ fs)
 put row fs = word 1 0xD1 ∷ fs
 put (cell v) fs = putCell v fs
 put (done s c n) fs = word 1 0xFD ∷ word 2 s ∷ word 2 c ∷ word 8 n ∷ fs
 put (message k n s c t v p l) fs =
-    word 1 k ∷ word 2 (messageLength t v p) ∷ word 4 n ∷ word 1 s ∷ word 1 c
-    ∷ word 2 (unitCount t) ∷ raw t ∷ word 1 (unitCount v) ∷ raw v ∷ word 1 (unitCount p) ∷ raw p ∷ word 4 l ∷ fs
+    messageHead k (messageLength t v p) n s c (usVarchar t (bVarchar v (bVarchar p (word 4 l ∷ fs))))
 
 -- the bytes of a token
 unfoldable pub bytesOf : Token Sent → List ℕ

@@ -4,6 +4,8 @@ use mathlib.Core.List.{List, [], _∷_, _++_, append-assoc}
 use Prim.Native.Nat.{ℕ, _+_}
 use lib.ListN.{length, length-append}
 use Rattle.wire.specs.Le.{le}
+use Rattle.wire.specs.Over.{Wrote}
+use Rattle.wire.proofs.Over.{then, wrote-as}
 use Rattle.wire.specs.Fields.{Field, word, raw, flat}
 use Rattle.wire.proofs.Le.{length-le}
 
@@ -20,3 +22,7 @@ unfolding flat
 flat-cat [] gs = refl
 flat-cat (word k n ∷ fs) gs = rw (flat-cat fs gs) (sym (append-assoc (le k n) (flat fs) (flat gs)))
 flat-cat (raw xs ∷ fs) gs = rw (flat-cat fs gs) (sym (append-assoc xs (flat fs) (flat gs)))
+
+-- fields written behind fields
+pub then-fields : (fs gs : List Field) {l m n : List ℕ} {at to end : ℕ} → Wrote l at (flat fs) m to → Wrote m to (flat gs) n end → Wrote l at (flat (fs ++ gs)) n end
+then-fields fs gs w u = wrote-as (then w u) (sym (flat-cat fs gs))

@@ -1,0 +1,37 @@
+-- Laws of tokens' fields: a token before others, and a number written by its low bytes. Assumes nothing.
+use mathlib.Core.Path.{_≡_, refl, sym, ap, _∙_}
+use mathlib.Core.List.{List, [], _∷_, _++_}
+use Prim.Native.Nat.{ℕ, _%_, _^_}
+use Rattle.wire.specs.Le.{le}
+use Rattle.wire.specs.Over.{Wrote}
+use Rattle.wire.specs.Fields.{Field, word, raw, flat}
+use Rattle.wire.proofs.Over.{wrote-as}
+use Rattle.wire.proofs.Le.{le-mod}
+use Rattle.wire.proofs.Fields.{flat-cat}
+use Rattle.token.specs.Tokens.{Token, metadata, column, row, cell, done, message, Sent, integer, noInteger, bounded, long, noLong, putChunks, putCell, put, bytesOf}
+
+-- the low bytes of a number are all that is written
+pub wrote-low : (k v : ℕ) {l m : List ℕ} {at to : ℕ} → Wrote l at (le k (v % 256 ^ k)) m to → Wrote l at (le k v) m to
+wrote-low k v w = wrote-as w (le-mod k v)
+
+-- fields before others
+pub chunks-before : (cs : List (List ℕ)) (fs : List Field) → putChunks cs fs ≡ putChunks cs [] ++ fs
+chunks-before [] fs = refl
+chunks-before (c ∷ cs) fs = ap (λ (r : List Field). word 4 _ ∷ raw c ∷ r) (chunks-before cs fs)
+
+pub put-before : (t : Token Sent) (fs : List Field) → put t fs ≡ put t [] ++ fs
+put-before (metadata n) fs = refl
+put-before (column u f c l o n) fs = refl
+put-before row fs = refl
+put-before (cell (integer w n)) fs = refl
+put-before (cell noInteger) fs = refl
+put-before (cell (bounded x)) fs = refl
+put-before (cell (long cs)) fs = ap (λ (r : List Field). word 8 _ ∷ r) (chunks-before cs fs)
+put-before (cell noLong) fs = refl
+put-before (done s c n) fs = refl
+put-before (message k n s c t v p l) fs = refl
+
+-- a token's bytes before others
+pub bytes-before : (t : Token Sent) (fs : List Field) → flat (put t fs) ≡ bytesOf t ++ flat fs
+unfolding bytesOf
+bytes-before t fs = ap flat (put-before t fs) ∙ flat-cat (put t []) fs

@@ -1,0 +1,235 @@
+// The tokens of a reply (MS-TDS 2.2.7): their codes, and the writer of each. A writer puts its token's bytes at a place of
+// a lent buffer and answers the place behind them; what lies past the buffer's end is not written.
+ghost use mathlib.Core.Path.{_≡_};
+ghost use mathlib.Core.List.{List, [], _∷_};
+ghost use Prim.Native.Nat.{_%_};
+ghost use lib.ListN.{length};
+ghost use Rattle.wire.specs.Fields.{flat, word, raw};
+ghost use Rattle.wire.specs.Over.{Wrote};
+ghost use Rattle.token.specs.Types.{dataTypeOf, typeCode, typeLength};
+ghost use Rattle.token.specs.Tokens.{metadata, column, row, cell, done, message, integer, noInteger, bounded, noLong, bytesOf, usVarchar, bVarchar, messageHead, messageLength, typeFields};
+
+// The codes of tokens, as MS-TDS numbers them.
+pub const COLMETADATA: u8 = 0x81;
+pub const ROW: u8 = 0xD1;
+pub const DONE: u8 = 0xFD;
+pub const ERROR: u8 = 0xAA;
+pub const INFO: u8 = 0xAB;
+
+// CurCmd of every DONE: SELECT.
+const SELECT: u16 = 0x00C1;
+
+// The SQL data types, in the order of a script's type bytes 1 to 8.
+pub enum SqlDataType {
+    TinyInt,
+    SmallInt,
+    Int,
+    BigInt,
+    NVarChar,
+    NVarCharMax,
+    VarCharMax,
+    VarBinaryMax,
+}
+
+// The data type that a script's type byte stands for.
+pub fn data_type_of(b: u8) -> SqlDataType
+    ensures { λ r. ⌜ r ≡ dataTypeOf b ⌝ }
+{
+    match b {
+        1 => SqlDataType::TinyInt,
+        2 => SqlDataType::SmallInt,
+        3 => SqlDataType::Int,
+        4 => SqlDataType::BigInt,
+        5 => SqlDataType::NVarChar,
+        6 => SqlDataType::NVarCharMax,
+        7 => SqlDataType::VarCharMax,
+        _ => SqlDataType::VarBinaryMax,
+    }
+}
+
+// The TDS type code of a data type.
+pub fn tds_type_code(t: SqlDataType) -> u8
+    ensures { λ r. ⌜ r ≡ typeCode t ⌝ }
+{
+    match t {
+        SqlDataType::TinyInt => 0x26,
+        SqlDataType::SmallInt => 0x26,
+        SqlDataType::Int => 0x26,
+        SqlDataType::BigInt => 0x26,
+        SqlDataType::NVarChar => 0xE7,
+        SqlDataType::NVarCharMax => 0xE7,
+        SqlDataType::VarCharMax => 0xA7,
+        SqlDataType::VarBinaryMax => 0xA5,
+    }
+}
+
+// The length of a data type in COLMETADATA.
+pub fn max_length(t: SqlDataType) -> u16
+    ensures { λ r. ⌜ r ≡ typeLength t ⌝ }
+{
+    match t {
+        SqlDataType::TinyInt => 1,
+        SqlDataType::SmallInt => 2,
+        SqlDataType::Int => 4,
+        SqlDataType::BigInt => 8,
+        SqlDataType::NVarChar => 8000,
+        SqlDataType::NVarCharMax => 0xFFFF,
+        SqlDataType::VarCharMax => 0xFFFF,
+        SqlDataType::VarBinaryMax => 0xFFFF,
+    }
+}
+
+// COLMETADATA with its count of columns, which follow one by one.
+pub fn put_colmetadata(buf: &mut [u8], at: usize, count: usize) -> usize
+    ensures { λ r. ⌜ Wrote (now (buf .entry)) at (bytesOf (metadata count)) (now (buf .exit)) r ⌝ }
+{
+    let next = wire::put_u8(buf, at, COLMETADATA);
+    wire::put_u16_le(buf, next, (count % 65536) as u16)
+}
+
+// A row, whose cells follow one by one.
+pub fn put_row(buf: &mut [u8], at: usize) -> usize
+    ensures { λ r. ⌜ Wrote (now (buf .entry)) at (bytesOf row) (now (buf .exit)) r ⌝ }
+{
+    wire::put_u8(buf, at, ROW)
+}
+
+// DONE with its status and count of rows.
+pub fn put_done(buf: &mut [u8], at: usize, status: u16, rows: u64) -> usize
+    ensures { λ r. ⌜ Wrote (now (buf .entry)) at (bytesOf (done status 0xC1 rows)) (now (buf .exit)) r ⌝ }
+{
+    let a = wire::put_u8(buf, at, DONE);
+    let b = wire::put_u16_le(buf, a, status);
+    let c = wire::put_u16_le(buf, b, SELECT);
+    wire::put_u64_le(buf, c, rows)
+}
+
+// A text behind its count of units, in two bytes and in one.
+fn put_us_varchar(buf: &mut [u8], at: usize, text: &[u8]) -> usize
+    ensures { λ r. ⌜ Wrote (now (buf .entry)) at (flat (usVarchar (now (text .entry)) [])) (now (buf .exit)) r ⌝ }
+{
+    let next = wire::put_u16_le(buf, at, (text.len() / 2 % 65536) as u16);
+    wire::put_slice(buf, next, text)
+}
+
+fn put_b_varchar(buf: &mut [u8], at: usize, text: &[u8]) -> usize
+    ensures { λ r. ⌜ Wrote (now (buf .entry)) at (flat (bVarchar (now (text .entry)) [])) (now (buf .exit)) r ⌝ }
+{
+    let next = wire::put_u8(buf, at, (text.len() / 2 % 256) as u8);
+    wire::put_slice(buf, next, text)
+}
+
+// An ERROR or INFO up to its texts.
+fn put_message_head(buf: &mut [u8], at: usize, kind: u8, size: u16, number: u32, state: u8, class: u8) -> usize
+    ensures { λ r. ⌜ Wrote (now (buf .entry)) at (flat (messageHead kind size number state class [])) (now (buf .exit)) r ⌝ }
+{
+    let a = wire::put_u8(buf, at, kind);
+    let b = wire::put_u16_le(buf, a, size);
+    let c = wire::put_u32_le(buf, b, number);
+    let d = wire::put_u8(buf, c, state);
+    wire::put_u8(buf, d, class)
+}
+
+// The length of an ERROR or INFO, modulo 65,536.
+fn message_length(text: &[u8], server: &[u8], procedure: &[u8]) -> u16
+    ensures { λ r. ⌜ r ≡ messageLength (now (text .entry)) (now (server .entry)) (now (procedure .entry)) % 65536 ⌝ }
+{
+    let texts = text.len() % 65536 + server.len() % 65536 + procedure.len() % 65536;
+    ((14 + texts) % 65536) as u16
+}
+
+// ERROR or INFO by its kind.
+pub fn put_message(
+    buf: &mut [u8],
+    at: usize,
+    kind: u8,
+    number: u32,
+    state: u8,
+    class: u8,
+    text: &[u8],
+    server: &[u8],
+    procedure: &[u8],
+    line: u32,
+) -> usize
+    ensures { λ r. ⌜ Wrote (now (buf .entry)) at (bytesOf (message kind number state class (now (text .entry)) (now (server .entry)) (now (procedure .entry)) line)) (now (buf .exit)) r ⌝ }
+{
+    let size = message_length(text, server, procedure);
+    let a = put_message_head(buf, at, kind, size, number, state, class);
+    let b = put_us_varchar(buf, a, text);
+    let c = put_b_varchar(buf, b, server);
+    let d = put_b_varchar(buf, c, procedure);
+    wire::put_u32_le(buf, d, line)
+}
+
+// A column's user type, flags, code and length.
+fn put_type_info(buf: &mut [u8], at: usize, t: SqlDataType) -> usize
+    ensures { λ r. ⌜ Wrote (now (buf .entry)) at (flat (typeFields 0 0 (typeCode t) (typeLength t) [])) (now (buf .exit)) r ⌝ }
+{
+    let code = tds_type_code(t);
+    let limit = max_length(t);
+    let a = wire::put_u32_le(buf, at, 0);
+    let b = wire::put_u16_le(buf, a, 0);
+    let c = wire::put_u8(buf, b, code);
+    if code == 0x26 {
+        return wire::put_u8(buf, c, (limit % 256) as u8);
+    }
+    wire::put_u16_le(buf, c, limit)
+}
+
+// A cell of an integer, by the number of its bytes.
+pub fn put_tinyint(buf: &mut [u8], at: usize, v: u8) -> usize
+    ensures { λ r. ⌜ Wrote (now (buf .entry)) at (bytesOf (cell (integer 1 v))) (now (buf .exit)) r ⌝ }
+{
+    let next = wire::put_u8(buf, at, 1);
+    wire::put_u8(buf, next, v)
+}
+
+pub fn put_smallint(buf: &mut [u8], at: usize, v: u16) -> usize
+    ensures { λ r. ⌜ Wrote (now (buf .entry)) at (bytesOf (cell (integer 2 v))) (now (buf .exit)) r ⌝ }
+{
+    let next = wire::put_u8(buf, at, 2);
+    wire::put_u16_le(buf, next, v)
+}
+
+pub fn put_int(buf: &mut [u8], at: usize, v: u32) -> usize
+    ensures { λ r. ⌜ Wrote (now (buf .entry)) at (bytesOf (cell (integer 4 v))) (now (buf .exit)) r ⌝ }
+{
+    let next = wire::put_u8(buf, at, 4);
+    wire::put_u32_le(buf, next, v)
+}
+
+pub fn put_bigint(buf: &mut [u8], at: usize, v: u64) -> usize
+    ensures { λ r. ⌜ Wrote (now (buf .entry)) at (bytesOf (cell (integer 8 v))) (now (buf .exit)) r ⌝ }
+{
+    let next = wire::put_u8(buf, at, 8);
+    wire::put_u64_le(buf, next, v)
+}
+
+// A null of an integer, and of a Max value.
+pub fn put_null(buf: &mut [u8], at: usize) -> usize
+    ensures { λ r. ⌜ Wrote (now (buf .entry)) at (bytesOf (cell noInteger)) (now (buf .exit)) r ⌝ }
+{
+    wire::put_u8(buf, at, 0)
+}
+
+pub fn put_plp_null(buf: &mut [u8], at: usize) -> usize
+    ensures { λ r. ⌜ Wrote (now (buf .entry)) at (bytesOf (cell noLong)) (now (buf .exit)) r ⌝ }
+{
+    wire::put_u64_le(buf, at, 0xFFFF_FFFF_FFFF_FFFF)
+}
+
+// A bounded text.
+pub fn put_nvarchar(buf: &mut [u8], at: usize, text: &[u8]) -> usize
+    ensures { λ r. ⌜ Wrote (now (buf .entry)) at (bytesOf (cell (bounded (now (text .entry))))) (now (buf .exit)) r ⌝ }
+{
+    let next = wire::put_u16_le(buf, at, (text.len() % 65536) as u16);
+    wire::put_slice(buf, next, text)
+}
+
+// A chunk of a Max value, behind its length.
+pub fn put_chunk(buf: &mut [u8], at: usize, chunk: &[u8]) -> usize
+    ensures { λ r. ⌜ Wrote (now (buf .entry)) at (flat (word 4 (length (now (chunk .entry))) ∷ raw (now (chunk .entry)) ∷ [])) (now (buf .exit)) r ⌝ }
+{
+    let next = wire::put_u32_le(buf, at, (chunk.len() % 0x1_0000_0000) as u32);
+    wire::put_slice(buf, next, chunk)
+}
