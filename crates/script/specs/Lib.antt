@@ -1,3 +1,4 @@
 pub mod Records
 pub mod Order
 pub mod Shape
+pub mod Verdict

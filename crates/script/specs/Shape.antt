@@ -81,5 +81,5 @@ unfoldable pub textsOf : ℕ → List ℕ → List (List ℕ)
 textsOf k p =
     cond (eqb k 2) (drop 6 p ∷ [])
     (cond (eqb k 3 || eqb k 9) (message p ∷ server p ∷ procedure p ∷ [])
-    (cond (eqb k 5 && eqb (leAt 1 p) 5) (drop 1 p ∷ [])
+    (cond (eqb k 5) (cond (eqb (leAt 1 p) 5) (drop 1 p ∷ []) [])
     (cond (eqb k 7 || eqb k 8) (drop 5 p ∷ []) [])))

@@ -1,8 +1,15 @@
 // Records, and scripts made of them: which are accepted, and what each record holds (document 01, 'The script').
+use wire::Part;
 ghost use mathlib.Core.Path.{_≡_};
+ghost use mathlib.Core.List.{[], _∷_};
+ghost use mathlib.Core.Bool.{cond};
+ghost use lib.ListN.{drop};
+ghost use lib.Dec.{eqb};
+ghost use Rattle.wire.specs.Le.{leAt};
 ghost use Rattle.script.specs.Records.{recordAt};
 ghost use Rattle.script.specs.Order.{allowed, afterInfo, afterLeading, afterCell, cellStage, stageAfter};
-ghost use Rattle.script.specs.Shape.{columnShaped, infoShaped, numberWidth, cellShaped, chunkShaped, errorShaped, shaped};
+ghost use Rattle.script.specs.Shape.{columnShaped, infoShaped, numberWidth, cellShaped, chunkShaped, errorShaped, shaped, textsOf, message, server, procedure};
+ghost use Rattle.script.specs.Verdict.{allWellFormed, faultOf, endFault, verdictOf};
 
 // What stands at a place: a record, whose payload starts at start and has len bytes, one that is cut, or the end.
 pub enum Found {
@@ -210,5 +217,152 @@ pub fn is_shaped(stage: Stage, kind: u16, p: &[u8]) -> bool
         CELL => cell_shaped(p),
         CHUNK => chunk_shaped(stage, p),
         _ => error_shaped(p),
+    }
+}
+
+// Refusals of the script's author, 11 to 14. 0 stands for none.
+pub const NONE: u8 = 0;
+// A record is cut.
+pub const RECORD_CUT: u8 = 11;
+// A kind is unknown or out of order, or a script has no set.
+pub const KIND_WRONG: u8 = 12;
+// A payload has a wrong shape.
+pub const SHAPE_WRONG: u8 = 13;
+// A text is not UTF-16.
+pub const TEXT_WRONG: u8 = 14;
+
+// Whether the three texts of an info are UTF-16.
+fn info_texts_ok(p: &[u8]) -> bool
+    ensures { λ r. ⌜ r ≡ allWellFormed (message (now (p .entry)) ∷ server (now (p .entry)) ∷ procedure (now (p .entry)) ∷ []) ⌝ }
+{
+    let text = text::is_well_formed(info_message(p));
+    let server = text::is_well_formed(info_server(p));
+    let procedure = text::is_well_formed(info_procedure(p));
+    text & server & procedure
+}
+
+// The texts of an info.
+pub fn info_message(p: &[u8]) -> &[u8]
+    ensures { λ r. ⌜ now r ≡ message (now (p .entry)) ⌝ }
+{
+    let len = 2 * wire::get_u16_le(p, 10) as usize;
+    wire::part_of(p, Part { start: 16, len })
+}
+
+pub fn info_server(p: &[u8]) -> &[u8]
+    ensures { λ r. ⌜ now r ≡ server (now (p .entry)) ⌝ }
+{
+    let start = 16 + 2 * wire::get_u16_le(p, 10) as usize;
+    let len = 2 * wire::get_u16_le(p, 12) as usize;
+    wire::part_of(p, Part { start, len })
+}
+
+pub fn info_procedure(p: &[u8]) -> &[u8]
+    ensures { λ r. ⌜ now r ≡ procedure (now (p .entry)) ⌝ }
+{
+    let start = 16 + 2 * wire::get_u16_le(p, 10) as usize + 2 * wire::get_u16_le(p, 12) as usize;
+    let len = 2 * wire::get_u16_le(p, 14) as usize;
+    wire::part_of(p, Part { start, len })
+}
+
+// What is behind the first n bytes of a payload.
+pub fn behind(p: &[u8], n: usize) -> &[u8]
+    ensures { λ r. ⌜ now r ≡ drop n (now (p .entry)) ⌝ }
+{
+    if p.len() < n {
+        return &p[..0];
+    }
+    &p[n..]
+}
+
+// Whether the text behind the first n bytes of a payload is UTF-16.
+fn text_ok(p: &[u8], n: usize) -> bool
+    ensures { λ r. ⌜ r ≡ allWellFormed (drop n (now (p .entry)) ∷ []) ⌝ }
+{
+    text::is_well_formed(behind(p, n))
+}
+
+// Whether the text of a cell, where it has one, is UTF-16.
+fn cell_text_ok(p: &[u8]) -> bool
+    ensures { λ r. ⌜ r ≡ allWellFormed (cond (eqb (leAt 1 (now (p .entry))) 5) (drop 1 (now (p .entry)) ∷ []) []) ⌝ }
+{
+    if wire::get_u8(p, 0) == 5 {
+        return text_ok(p, 1);
+    }
+    true
+}
+
+// Whether the texts of a payload are UTF-16.
+fn texts_ok(kind: u16, p: &[u8]) -> bool
+    ensures { λ r. ⌜ r ≡ allWellFormed (textsOf kind (now (p .entry))) ⌝ }
+{
+    match kind {
+        COLUMN => text_ok(p, 6),
+        INFO => info_texts_ok(p),
+        TRAILING_INFO => info_texts_ok(p),
+        CELL => cell_text_ok(p),
+        LEADING_ERROR => text_ok(p, 5),
+        TERMINAL_ERROR => text_ok(p, 5),
+        _ => true,
+    }
+}
+
+// A record's refusal at a stage, or none.
+fn fault(stage: Stage, kind: u16, p: &[u8]) -> u8
+    ensures { λ r. ⌜ r ≡ faultOf stage kind (now (p .entry)) ⌝ }
+{
+    if !is_allowed(stage, kind) {
+        return KIND_WRONG;
+    }
+    if !is_shaped(stage, kind, p) {
+        return SHAPE_WRONG;
+    }
+    if !texts_ok(kind, p) {
+        return TEXT_WRONG;
+    }
+    NONE
+}
+
+// The refusal at the end of a script, or none.
+fn end_fault(stage: Stage) -> u8
+    ensures { λ r. ⌜ r ≡ endFault stage ⌝ }
+{
+    match stage {
+        Stage::Start => KIND_WRONG,
+        Stage::Columns => NONE,
+        Stage::Leading => NONE,
+        Stage::Infos => NONE,
+        Stage::Rows => NONE,
+        Stage::TextChunks => NONE,
+        Stage::ByteChunks => NONE,
+        Stage::Trailing => NONE,
+    }
+}
+
+// A script's refusal, 11 to 14, or none: one pass over its records.
+pub fn verdict(s: &[u8]) -> u8
+    ensures { λ r. ⌜ r ≡ verdictOf (now (s .entry)) ⌝ }
+{
+    let mut at: usize = 0;
+    let mut stage = Stage::Start;
+    loop {
+        match record_at(s, at) {
+            Found::Cut => {
+                return RECORD_CUT;
+            }
+            Found::End => {
+                return end_fault(stage);
+            }
+            Found::Record { kind, start, len } => {
+                let next = start + len;
+                let payload = &s[start..next];
+                let found = fault(stage, kind, payload);
+                if found != NONE {
+                    return found;
+                }
+                stage = stage_after(stage, kind, payload);
+                at = next;
+            }
+        }
     }
 }

@@ -7,6 +7,7 @@ use lib.IntN.{ℤ, pos, negsuc}
 use lib.ListN.{length}
 use lib.Dec.{eqb, ltb}
 use Rattle.wire.specs.Fields.{Field, word, raw, flat}
+use Rattle.text.specs.Surrogates.{characters}
 use Rattle.token.specs.Types.{lengthWidth, collationSize}
 
 -- a token whose cells are of the type C: COLMETADATA and each of its columns, ROW and each of its cells, DONE, and
@@ -79,7 +80,7 @@ unitCount x = length x / 2
 
 -- the count before a column's name: characters, as the Rust writes it, where MS-TDS has units
 unfoldable pub nameCount : List ℕ → ℕ
-nameCount name = unitCount name
+nameCount name = characters name
 
 -- the length of a message: what follows the length itself
 unfoldable pub messageLength : List ℕ → List ℕ → List ℕ → ℕ

@@ -11,9 +11,13 @@ ghost use Rattle.token.specs.Tokens.{metadata, column, row, cell, done, 
 
 // The codes of tokens, as MS-TDS numbers them.
 pub const COLMETADATA: u8 = 0x81;
+
 pub const ROW: u8 = 0xD1;
+
 pub const DONE: u8 = 0xFD;
+
 pub const ERROR: u8 = 0xAA;
+
 pub const INFO: u8 = 0xAB;
 
 // CurCmd of every DONE: SELECT.
@@ -120,7 +124,15 @@ fn put_b_varchar(buf: &mut [u8], at: usize, text: &[u8]) -> usize
 }
 
 // An ERROR or INFO up to its texts.
-fn put_message_head(buf: &mut [u8], at: usize, kind: u8, size: u16, number: u32, state: u8, class: u8) -> usize
+fn put_message_head(
+    buf: &mut [u8],
+    at: usize,
+    kind: u8,
+    size: u16,
+    number: u32,
+    state: u8,
+    class: u8,
+) -> usize
     ensures { λ r. ⌜ Wrote (now (buf .entry)) at (flat (messageHead kind size number state class [])) (now (buf .exit)) r ⌝ }
 {
     let a = wire::put_u8(buf, at, kind);
@@ -174,6 +186,16 @@ fn put_type_info(buf: &mut [u8], at: usize, t: SqlDataType) -> usize
         return wire::put_u8(buf, c, (limit % 256) as u8);
     }
     wire::put_u16_le(buf, c, limit)
+}
+
+// A column: its type, its collation where the type has one, and its name.
+pub fn put_column(buf: &mut [u8], at: usize, t: SqlDataType, collation: &[u8], name: &[u8]) -> usize
+    ensures { λ r. ⌜ Wrote (now (buf .entry)) at (bytesOf (column 0 0 (typeCode t) (typeLength t) (now (collation .entry)) (now (name .entry)))) (now (buf .exit)) r ⌝ }
+{
+    let a = put_type_info(buf, at, t);
+    let b = wire::put_slice(buf, a, collation);
+    let c = wire::put_u8(buf, b, (text::characters(name) % 256) as u8);
+    wire::put_slice(buf, c, name)
 }
 
 // A cell of an integer, by the number of its bytes.

@@ -1,46 +1,37 @@
+-- `token::data_type_of` meets its contract. Assumes nothing.
 use borrow.Author.Tests.{ne-eqb}
 use Rattle.token.specs.Types.{dataTypeOf}
 use Rattle.token.proofs.data_type_of.Statement.{statement}
 use Rattle.token.proofs.data_type_of.Tie as tie
-use Rattle.token.proofs.data_type_of.Reads as reads
-use Rattle.token.proofs.data_type_of.Lts as lts
 
--- src/lib.rt:35:1
 returns : tie.Need-returns
 unfolding dataTypeOf
 returns c = rw (c .match .keys1)
 
--- src/lib.rt:35:1
 returns-2 : tie.Need-returns-2
 unfolding dataTypeOf
 returns-2 c = rw (c .match .keys2)
 
--- src/lib.rt:35:1
 returns-3 : tie.Need-returns-3
 unfolding dataTypeOf
 returns-3 c = rw (c .match .keys3)
 
--- src/lib.rt:35:1
 returns-4 : tie.Need-returns-4
 unfolding dataTypeOf
 returns-4 c = rw (c .match .keys4)
 
--- src/lib.rt:35:1
 returns-5 : tie.Need-returns-5
 unfolding dataTypeOf
 returns-5 c = rw (c .match .keys5)
 
--- src/lib.rt:35:1
 returns-6 : tie.Need-returns-6
 unfolding dataTypeOf
 returns-6 c = rw (c .match .keys6)
 
--- src/lib.rt:35:1
 returns-7 : tie.Need-returns-7
 unfolding dataTypeOf
 returns-7 c = rw (c .match .keys7)
 
--- src/lib.rt:35:1
 returns-8 : tie.Need-returns-8
 unfolding dataTypeOf
 returns-8 c = simp (ne-eqb _ _ (c .match .rest .0 .0 .0 .0 .0 .0 .1), ne-eqb _ _ (c .match .rest .0 .0 .0 .0 .0 .1), ne-eqb _ _ (c .match .rest .0 .0 .0 .0 .1), ne-eqb _ _ (c .match .rest .0 .0 .0 .1), ne-eqb _ _ (c .match .rest .0 .0 .1), ne-eqb _ _ (c .match .rest .0 .1), ne-eqb _ _ (c .match .rest .1))

@@ -1,28 +1,22 @@
+-- `token::message_length` meets its contract. Assumes nothing.
 use native.Mathlib.Omega.{arith}
 use Rattle.token.specs.Tokens.{messageLength}
 use borrow.Author.Needs.{needs}
 use Rattle.token.proofs.message_length.Statement.{statement}
 use Rattle.token.proofs.message_length.Tie as tie
-use Rattle.token.proofs.message_length.Reads as reads
-use Rattle.token.proofs.message_length.Lts as lts
 
--- src/lib.rt:137:17
 add-texts : tie.Need-add-texts
 add-texts c = search needs
 
--- src/lib.rt:137:17
 add-texts-2 : tie.Need-add-texts-2
 add-texts-2 c = search needs
 
--- src/lib.rt:138:7
 add-result : tie.Need-add-result
 add-result c = search needs
 
--- src/lib.rt:138:5
 cast-result : tie.Need-cast-result
 cast-result c = search needs
 
--- src/lib.rt:134:1
 returns : tie.Need-returns
 unfolding messageLength
 returns c = omega arith

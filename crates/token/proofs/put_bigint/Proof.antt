@@ -1,27 +1,20 @@
+-- `token::put_bigint` meets its contract. Assumes nothing.
 use Rattle.wire.proofs.Over.{then, ended}
 use Rattle.wire.specs.Fields.{flat}
 use Rattle.token.specs.Tokens.{bytesOf}
 use borrow.Author.Needs.{needs}
 use Rattle.token.proofs.put_bigint.Statement.{statement}
 use Rattle.token.proofs.put_bigint.Tie as tie
-use Rattle.token.proofs.put_bigint.Reads as reads
-use Rattle.token.proofs.put_bigint.Lts as lts
-use Rattle.wire.proofs.put_u64_le.Reads as put-u64-le-reads
-use Rattle.wire.proofs.put_u8.Reads as put-u8-reads
 
--- src/lib.rt:204:9
 put-u8-requires : tie.Need-put-u8-requires
 put-u8-requires c κs = search needs
 
--- src/lib.rt:205:5
 put-u64-le-requires : tie.Need-put-u64-le-requires
 put-u64-le-requires c κs = search needs
 
--- src/lib.rt:201:1
 same-length : tie.Need-same-length
 same-length c = search needs
 
--- src/lib.rt:201:1
 returns : tie.Need-returns
 unfolding bytesOf flat
 returns c = then (c .before .before .before .before .before .before .put-u8 .ensures) (then (c .before .before .put-u64-le .ensures) (ended (c .before .before .put-u64-le .ensures)))

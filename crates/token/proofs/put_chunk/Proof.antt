@@ -1,3 +1,4 @@
+-- `token::put_chunk` meets its contract. Assumes nothing.
 use Rattle.wire.proofs.Over.{then, ended}
 use Rattle.wire.specs.Fields.{flat}
 use Rattle.token.proofs.Puts.{wrote-low}
@@ -6,28 +7,19 @@ use lib.ListN.{length}
 use borrow.Author.Needs.{needs}
 use Rattle.token.proofs.put_chunk.Statement.{statement}
 use Rattle.token.proofs.put_chunk.Tie as tie
-use Rattle.token.proofs.put_chunk.Reads as reads
-use Rattle.token.proofs.put_chunk.Lts as lts
-use Rattle.wire.proofs.put_slice.Reads as put-slice-reads
-use Rattle.wire.proofs.put_u32_le.Reads as put-u32-le-reads
 
--- src/lib.rt:233:42
 cast-put-u32-le : tie.Need-cast-put-u32-le
 cast-put-u32-le c = search needs
 
--- src/lib.rt:233:9
 put-u32-le-requires : tie.Need-put-u32-le-requires
 put-u32-le-requires c κs = search needs
 
--- src/lib.rt:234:5
 put-slice-requires : tie.Need-put-slice-requires
 put-slice-requires c κs = search needs
 
--- src/lib.rt:230:1
 same-length : tie.Need-same-length
 same-length c = search needs
 
--- src/lib.rt:230:1
 returns : tie.Need-returns
 unfolding flat
 returns c = let a = c .before .before .before .before .before .before .before .before .before .before .args in then (wrote-low 4 (length (now (a .chunk))) (c .before .before .before .before .before .before .put-u32-le .ensures)) (then (c .before .before .put-slice .ensures) (ended (c .before .before .put-slice .ensures)))

@@ -1,3 +1,4 @@
+-- `token::put_colmetadata` meets its contract. Assumes nothing.
 use Rattle.wire.proofs.Over.{then, ended}
 use Rattle.wire.specs.Fields.{flat}
 use Rattle.token.specs.Tokens.{bytesOf}
@@ -5,28 +6,19 @@ use Rattle.token.proofs.Puts.{wrote-low}
 use borrow.Author.Needs.{needs}
 use Rattle.token.proofs.put_colmetadata.Statement.{statement}
 use Rattle.token.proofs.put_colmetadata.Tie as tie
-use Rattle.token.proofs.put_colmetadata.Reads as reads
-use Rattle.token.proofs.put_colmetadata.Lts as lts
-use Rattle.wire.proofs.put_u16_le.Reads as put-u16-le-reads
-use Rattle.wire.proofs.put_u8.Reads as put-u8-reads
 
--- src/lib.rt:86:9
 put-u8-requires : tie.Need-put-u8-requires
 put-u8-requires c κs = search needs
 
--- src/lib.rt:87:33
 cast-put-u16-le : tie.Need-cast-put-u16-le
 cast-put-u16-le c = search needs
 
--- src/lib.rt:87:5
 put-u16-le-requires : tie.Need-put-u16-le-requires
 put-u16-le-requires c κs = search needs
 
--- src/lib.rt:83:1
 same-length : tie.Need-same-length
 same-length c = search needs
 
--- src/lib.rt:83:1
 returns : tie.Need-returns
 unfolding bytesOf flat
 returns c = let a = c .before .before .before .before .before .before .before .before .before .args in then (c .before .before .before .before .before .before .put-u8 .ensures) (then (wrote-low 2 (a .count) (c .before .before .put-u16-le .ensures)) (ended (wrote-low 2 (a .count) (c .before .before .put-u16-le .ensures))))

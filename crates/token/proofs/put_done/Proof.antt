@@ -1,36 +1,26 @@
+-- `token::put_done` meets its contract. Assumes nothing.
 use Rattle.wire.proofs.Over.{then, ended}
 use Rattle.wire.specs.Fields.{flat}
 use Rattle.token.specs.Tokens.{bytesOf}
 use borrow.Author.Needs.{needs}
 use Rattle.token.proofs.put_done.Statement.{statement}
 use Rattle.token.proofs.put_done.Tie as tie
-use Rattle.token.proofs.put_done.Reads as reads
-use Rattle.token.proofs.put_done.Lts as lts
-use Rattle.wire.proofs.put_u16_le.Reads as put-u16-le-reads
-use Rattle.wire.proofs.put_u64_le.Reads as put-u64-le-reads
-use Rattle.wire.proofs.put_u8.Reads as put-u8-reads
 
--- src/lib.rt:101:9
 put-u8-requires : tie.Need-put-u8-requires
 put-u8-requires c κs = search needs
 
--- src/lib.rt:102:9
 put-u16-le-requires : tie.Need-put-u16-le-requires
 put-u16-le-requires c κs = search needs
 
--- src/lib.rt:103:9
 put-u16-le-requires-2 : tie.Need-put-u16-le-requires-2
 put-u16-le-requires-2 c κs = search needs
 
--- src/lib.rt:104:5
 put-u64-le-requires : tie.Need-put-u64-le-requires
 put-u64-le-requires c κs = search needs
 
--- src/lib.rt:98:1
 same-length : tie.Need-same-length
 same-length c = search needs
 
--- src/lib.rt:98:1
 returns : tie.Need-returns
 unfolding bytesOf flat
 returns c = then (c .before .before .before .before .before .before .before .before .before .before .before .before .before .before .put-u8 .ensures) (then (c .before .before .before .before .before .before .before .before .before .before .put-u16-le .ensures) (then (c .before .before .before .before .before .before .put-u16-le2 .ensures) (then (c .before .before .put-u64-le .ensures) (ended (c .before .before .put-u64-le .ensures)))))

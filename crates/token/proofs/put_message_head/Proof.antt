@@ -1,39 +1,28 @@
+-- `token::put_message_head` meets its contract. Assumes nothing.
 use Rattle.wire.proofs.Over.{then, ended}
 use Rattle.wire.specs.Fields.{flat}
 use borrow.Author.Needs.{needs}
 use Rattle.token.proofs.put_message_head.Statement.{statement}
 use Rattle.token.proofs.put_message_head.Tie as tie
-use Rattle.token.proofs.put_message_head.Reads as reads
-use Rattle.token.proofs.put_message_head.Lts as lts
-use Rattle.wire.proofs.put_u16_le.Reads as put-u16-le-reads
-use Rattle.wire.proofs.put_u32_le.Reads as put-u32-le-reads
-use Rattle.wire.proofs.put_u8.Reads as put-u8-reads
 
--- src/lib.rt:126:9
 put-u8-requires : tie.Need-put-u8-requires
 put-u8-requires c κs = search needs
 
--- src/lib.rt:127:9
 put-u16-le-requires : tie.Need-put-u16-le-requires
 put-u16-le-requires c κs = search needs
 
--- src/lib.rt:128:9
 put-u32-le-requires : tie.Need-put-u32-le-requires
 put-u32-le-requires c κs = search needs
 
--- src/lib.rt:129:9
 put-u8-requires-2 : tie.Need-put-u8-requires-2
 put-u8-requires-2 c κs = search needs
 
--- src/lib.rt:130:5
 put-u8-requires-3 : tie.Need-put-u8-requires-3
 put-u8-requires-3 c κs = search needs
 
--- src/lib.rt:123:1
 same-length : tie.Need-same-length
 same-length c = search needs
 
--- src/lib.rt:123:1
 returns : tie.Need-returns
 unfolding flat
 returns c = then (c .before .before .before .before .before .before .before .before .before .before .before .before .before .before .before .before .before .before .put-u8 .ensures) (then (c .before .before .before .before .before .before .before .before .before .before .before .before .before .before .put-u16-le .ensures) (then (c .before .before .before .before .before .before .before .before .before .before .put-u32-le .ensures) (then (c .before .before .before .before .before .before .put-u82 .ensures) (then (c .before .before .put-u83 .ensures) (ended (c .before .before .put-u83 .ensures))))))

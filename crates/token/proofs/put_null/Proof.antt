@@ -1,22 +1,17 @@
+-- `token::put_null` meets its contract. Assumes nothing.
 use Rattle.wire.proofs.Over.{then, ended}
 use Rattle.wire.specs.Fields.{flat}
 use Rattle.token.specs.Tokens.{bytesOf}
 use borrow.Author.Needs.{needs}
 use Rattle.token.proofs.put_null.Statement.{statement}
 use Rattle.token.proofs.put_null.Tie as tie
-use Rattle.token.proofs.put_null.Reads as reads
-use Rattle.token.proofs.put_null.Lts as lts
-use Rattle.wire.proofs.put_u8.Reads as put-u8-reads
 
--- src/lib.rt:212:5
 put-u8-requires : tie.Need-put-u8-requires
 put-u8-requires c κs = search needs
 
--- src/lib.rt:209:1
 same-length : tie.Need-same-length
 same-length c = search needs
 
--- src/lib.rt:209:1
 returns : tie.Need-returns
 unfolding bytesOf flat
 returns c = then (c .before .before .put-u8 .ensures) (ended (c .before .before .put-u8 .ensures))

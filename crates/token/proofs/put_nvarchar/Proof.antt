@@ -1,3 +1,4 @@
+-- `token::put_nvarchar` meets its contract. Assumes nothing.
 use Rattle.wire.proofs.Over.{then, ended}
 use Rattle.wire.specs.Fields.{flat}
 use Rattle.token.specs.Tokens.{bytesOf}
@@ -7,28 +8,19 @@ use lib.ListN.{length}
 use borrow.Author.Needs.{needs}
 use Rattle.token.proofs.put_nvarchar.Statement.{statement}
 use Rattle.token.proofs.put_nvarchar.Tie as tie
-use Rattle.token.proofs.put_nvarchar.Reads as reads
-use Rattle.token.proofs.put_nvarchar.Lts as lts
-use Rattle.wire.proofs.put_slice.Reads as put-slice-reads
-use Rattle.wire.proofs.put_u16_le.Reads as put-u16-le-reads
 
--- src/lib.rt:225:42
 cast-put-u16-le : tie.Need-cast-put-u16-le
 cast-put-u16-le c = search needs
 
--- src/lib.rt:225:9
 put-u16-le-requires : tie.Need-put-u16-le-requires
 put-u16-le-requires c κs = search needs
 
--- src/lib.rt:226:5
 put-slice-requires : tie.Need-put-slice-requires
 put-slice-requires c κs = search needs
 
--- src/lib.rt:222:1
 same-length : tie.Need-same-length
 same-length c = search needs
 
--- src/lib.rt:222:1
 returns : tie.Need-returns
 unfolding bytesOf flat
 returns c = let a = c .before .before .before .before .before .before .before .before .before .before .args in then (wrote-low 2 (length (now (a .text))) (c .before .before .before .before .before .before .put-u16-le .ensures)) (then (c .before .before .put-slice .ensures) (ended (c .before .before .put-slice .ensures)))

@@ -1,22 +1,17 @@
+-- `token::put_row` meets its contract. Assumes nothing.
 use Rattle.wire.proofs.Over.{then, ended}
 use Rattle.wire.specs.Fields.{flat}
 use Rattle.token.specs.Tokens.{bytesOf}
 use borrow.Author.Needs.{needs}
 use Rattle.token.proofs.put_row.Statement.{statement}
 use Rattle.token.proofs.put_row.Tie as tie
-use Rattle.token.proofs.put_row.Reads as reads
-use Rattle.token.proofs.put_row.Lts as lts
-use Rattle.wire.proofs.put_u8.Reads as put-u8-reads
 
--- src/lib.rt:94:5
 put-u8-requires : tie.Need-put-u8-requires
 put-u8-requires c κs = search needs
 
--- src/lib.rt:91:1
 same-length : tie.Need-same-length
 same-length c = search needs
 
--- src/lib.rt:91:1
 returns : tie.Need-returns
 unfolding bytesOf flat
 returns c = then (c .before .before .put-u8 .ensures) (ended (c .before .before .put-u8 .ensures))

@@ -1,26 +1,20 @@
+-- `token::put_tinyint` meets its contract. Assumes nothing.
 use Rattle.wire.proofs.Over.{then, ended}
 use Rattle.wire.specs.Fields.{flat}
 use Rattle.token.specs.Tokens.{bytesOf}
 use borrow.Author.Needs.{needs}
 use Rattle.token.proofs.put_tinyint.Statement.{statement}
 use Rattle.token.proofs.put_tinyint.Tie as tie
-use Rattle.token.proofs.put_tinyint.Reads as reads
-use Rattle.token.proofs.put_tinyint.Lts as lts
-use Rattle.wire.proofs.put_u8.Reads as put-u8-reads
 
--- src/lib.rt:183:9
 put-u8-requires : tie.Need-put-u8-requires
 put-u8-requires c κs = search needs
 
--- src/lib.rt:184:5
 put-u8-requires-2 : tie.Need-put-u8-requires-2
 put-u8-requires-2 c κs = search needs
 
--- src/lib.rt:180:1
 same-length : tie.Need-same-length
 same-length c = search needs
 
--- src/lib.rt:180:1
 returns : tie.Need-returns
 unfolding bytesOf flat
 returns c = then (c .before .before .before .before .before .before .put-u8 .ensures) (then (c .before .before .put-u82 .ensures) (ended (c .before .before .put-u82 .ensures)))

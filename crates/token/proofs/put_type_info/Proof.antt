@@ -1,61 +1,49 @@
+-- `token::put_type_info` meets its contract. Assumes nothing.
+use Rattle.wire.proofs.Over.{then, ended}
+use Rattle.token.proofs.Puts.{wrote-low, type-fields, width-one, width-two}
 use borrow.Author.Needs.{needs}
 use Rattle.token.proofs.put_type_info.Statement.{statement}
 use Rattle.token.proofs.put_type_info.Tie as tie
-use Rattle.token.proofs.put_type_info.Reads as reads
-use Rattle.token.proofs.put_type_info.Lts as lts
-use Rattle.token.proofs.max_length.Reads as max-length-reads
-use Rattle.token.proofs.tds_type_code.Reads as tds-type-code-reads
-use Rattle.wire.proofs.put_u16_le.Reads as put-u16-le-reads
-use Rattle.wire.proofs.put_u32_le.Reads as put-u32-le-reads
-use Rattle.wire.proofs.put_u8.Reads as put-u8-reads
 
--- src/lib.rt:168:9
 tds-type-code-requires : tie.Need-tds-type-code-requires
 tds-type-code-requires c κs = search needs
 
--- src/lib.rt:169:9
 max-length-requires : tie.Need-max-length-requires
 max-length-requires c κs = search needs
 
--- src/lib.rt:170:9
 put-u32-le-requires : tie.Need-put-u32-le-requires
 put-u32-le-requires c κs = search needs
 
--- src/lib.rt:171:9
 put-u16-le-requires : tie.Need-put-u16-le-requires
 put-u16-le-requires c κs = search needs
 
--- src/lib.rt:172:9
 put-u8-requires : tie.Need-put-u8-requires
 put-u8-requires c κs = search needs
 
--- src/lib.rt:174:37
 cast-put-u8 : tie.Need-cast-put-u8
 cast-put-u8 c = search needs
 
--- src/lib.rt:174:9
 put-u8-requires-2 : tie.Need-put-u8-requires-2
 put-u8-requires-2 c κs = search needs
 
--- src/lib.rt:174:9
 same-length : tie.Need-same-length
 same-length c = search needs
 
--- src/lib.rt:174:9
 returns : tie.Need-returns
-returns c = ?
+returns c = let code = c .before .before .before .before .before .before .before .before .before .before .before .before .before .before .before .before .before .before .tds-type-code in
+    let limit = c .before .before .before .before .before .before .before .before .before .before .before .before .before .before .before .before .before .max-length .result in
+    rw (← code .ensures, ← c .before .before .before .before .before .before .before .before .before .before .before .before .before .before .before .before .before .max-length .ensures) (type-fields (code .result) limit 1 (width-one (code .result) (c .before .before .before .before .if1 .taken)) (then (c .before .before .before .before .before .before .before .before .before .before .before .before .before .before .before .put-u32-le .ensures) (then (c .before .before .before .before .before .before .before .before .before .before .before .put-u16-le .ensures) (then (c .before .before .before .before .before .before .before .put-u8 .ensures) (then (wrote-low 1 limit (c .before .before .put-u82 .ensures)) (ended (wrote-low 1 limit (c .before .before .put-u82 .ensures))))))))
 
--- src/lib.rt:176:5
 put-u16-le-requires-2 : tie.Need-put-u16-le-requires-2
 put-u16-le-requires-2 c κs = search needs
 
--- src/lib.rt:165:1
 same-length-2 : tie.Need-same-length-2
 same-length-2 c = search needs
 
--- src/lib.rt:165:1
 returns-2 : tie.Need-returns-2
-returns-2 c = ?
+returns-2 c = let code = c .before .before .before .before .before .before .before .before .before .before .before .before .before .before .before .before .before .before .tds-type-code in
+    let limit = c .before .before .before .before .before .before .before .before .before .before .before .before .before .before .before .before .before .max-length .result in
+    rw (← code .ensures, ← c .before .before .before .before .before .before .before .before .before .before .before .before .before .before .before .before .before .max-length .ensures) (type-fields (code .result) limit 2 (width-two (code .result) (c .before .before .before .before .if1 .left)) (then (c .before .before .before .before .before .before .before .before .before .before .before .before .before .before .before .put-u32-le .ensures) (then (c .before .before .before .before .before .before .before .before .before .before .before .put-u16-le .ensures) (then (c .before .before .before .before .before .before .before .put-u8 .ensures) (then (c .before .before .put-u16-le2 .ensures) (ended (c .before .before .put-u16-le2 .ensures)))))))
 
 pub put-type-info-spec : {M : Type 1} → statement M
 put-type-info-spec =

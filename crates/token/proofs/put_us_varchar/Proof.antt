@@ -1,3 +1,4 @@
+-- `token::put_us_varchar` meets its contract. Assumes nothing.
 use Rattle.wire.proofs.Over.{then, ended}
 use Rattle.wire.specs.Fields.{flat}
 use Rattle.token.proofs.Puts.{wrote-low}
@@ -7,28 +8,19 @@ use Prim.Native.Nat.{_/_}
 use borrow.Author.Needs.{needs}
 use Rattle.token.proofs.put_us_varchar.Statement.{statement}
 use Rattle.token.proofs.put_us_varchar.Tie as tie
-use Rattle.token.proofs.put_us_varchar.Reads as reads
-use Rattle.token.proofs.put_us_varchar.Lts as lts
-use Rattle.wire.proofs.put_slice.Reads as put-slice-reads
-use Rattle.wire.proofs.put_u16_le.Reads as put-u16-le-reads
 
--- src/lib.rt:111:42
 cast-put-u16-le : tie.Need-cast-put-u16-le
 cast-put-u16-le c = search needs
 
--- src/lib.rt:111:9
 put-u16-le-requires : tie.Need-put-u16-le-requires
 put-u16-le-requires c κs = search needs
 
--- src/lib.rt:112:5
 put-slice-requires : tie.Need-put-slice-requires
 put-slice-requires c κs = search needs
 
--- src/lib.rt:108:1
 same-length : tie.Need-same-length
 same-length c = search needs
 
--- src/lib.rt:108:1
 returns : tie.Need-returns
 unfolding flat
 returns c = let a = c .before .before .before .before .before .before .before .before .before .before .args in then (wrote-low 2 (length (now (a .text)) / 2) (c .before .before .before .before .before .before .put-u16-le .ensures)) (then (c .before .before .put-slice .ensures) (ended (c .before .before .put-slice .ensures)))

@@ -1,0 +1,40 @@
+-- A turn of the verdict over the records. Assumes nothing.
+use mathlib.Core.Path.{_≡_, refl, sym, ap, _∙_}
+use mathlib.Core.List.{List, [], _∷_}
+use mathlib.Core.Bool.{Bool, true, false, _&&_}
+use Prim.Native.Nat.{ℕ, _+_, _-_}
+use native.Mathlib.Nat.{add-sub-cancel-left}
+use lib.ListN.{take, drop}
+use borrow.Author.Tests.{ne-eqb}
+use Rattle.script.specs.declared.Found.the-variants.{Record, Cut, End}
+use Rattle.script.specs.declared.Stage.{Stage}
+use Rattle.script.specs.Records.{records, recordAt}
+use Rattle.script.specs.Order.{stageAfter}
+use Rattle.script.specs.Verdict.{faultOf, endFault, verdictFrom}
+use Rattle.script.proofs.Walk.{turn, cuts, ends}
+
+-- three tests, in one expression and one after another
+pub three : (a b c : Bool) → (a && b && c) ≡ (a && (b && (c && true)))
+three true true true = refl
+three true true false = refl
+three true false c = refl
+three false b c = refl
+
+module _ (s : List ℕ) (at : ℕ) (stage : Stage) where
+  pub verdict-cut : recordAt s at ≡ Cut → verdictFrom stage (records (drop at s)) ≡ 11
+  unfolding verdictFrom
+  verdict-cut e = rw (cuts s at e)
+
+  pub verdict-end : recordAt s at ≡ End → verdictFrom stage (records (drop at s)) ≡ endFault stage
+  unfolding verdictFrom
+  verdict-end e = rw (ends s at e)
+
+  -- a record, whose payload is the slice from its start on
+  module _ (k st n f : ℕ) (e : recordAt s at ≡ Record k st n) (g : f ≡ faultOf stage k (take (st + n - st) (drop st s))) where
+    pub verdict-bad : (f ≡ 0 → ⊥) → verdictFrom stage (records (drop at s)) ≡ f
+    unfolding verdictFrom
+    verdict-bad h = let g′ = rw (add-sub-cancel-left st n) at g in rw (turn s at e, ← g′, ne-eqb f 0 h)
+
+    pub verdict-next : f ≡ 0 → verdictFrom stage (records (drop at s)) ≡ verdictFrom (stageAfter stage k (take (st + n - st) (drop st s))) (records (drop (st + n) s))
+    unfolding verdictFrom
+    verdict-next h = let g′ = rw (add-sub-cancel-left st n) at g in rw (add-sub-cancel-left st n, turn s at e, sym g′ ∙ h)
