@@ -1,0 +1,4 @@
+pub mod Kind
+pub mod Status
+pub mod Header
+pub mod Reply
