@@ -1,0 +1,4 @@
+pub mod Units
+pub mod Surrogates
+pub mod Space
+pub mod Trim
