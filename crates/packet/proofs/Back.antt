@@ -1,23 +1,23 @@
 -- What is written is read back: a big-endian number of any width, a type's byte, a header, a reply's header. Assumes nothing.
 use mathlib.Core.Path.{_≡_, refl, sym, ap, _∙_}
 use mathlib.Core.List.{List, [], _∷_, _++_, reverse, reverse-reverse, append-nil}
-use Prim.Native.Nat.{ℕ, zero, suc, _+_, _*_, _/_, _%_, _^_, _<_, _≤_}
+use Prim.Native.Nat.{ℕ, _+_, _%_, _^_, _<_, _≤_}
 use native.Mathlib.Nat.{mod-eq-of-lt, zero-add}
 use native.Mathlib.Omega.{arith}
-use lib.ListN.{length, length-append, drop}
+use lib.ListN.{length, length-append}
 use borrow.Author.Tests.{le-ltb}
 use Rattle.wire.specs.Le.{leAt, le}
 use Rattle.wire.specs.Be.{first, beAt, be}
-use Rattle.wire.proofs.Le.{le-back, le-exact}
+use Rattle.wire.proofs.Le.{le-back}
 use Rattle.wire.proofs.Be.{length-be}
 use Rattle.packet.specs.declared.PacketType.{PacketType}
 use Rattle.packet.specs.declared.PacketType.the-variants.{SqlBatch, FedAuthToken, PreLogin, TabularResult, Attention, Login7, RpcRequest, TransactionManager}
 use Rattle.packet.specs.declared.KnownType.the-variants.{Known}
 use Rattle.packet.specs.declared.PacketHeader.{PacketHeader}
 use Rattle.packet.specs.declared.Parsed.the-variants.{Header}
-use Rattle.packet.specs.Kind.{byteOf, typeOf, types, typeIn}
+use Rattle.packet.specs.Types.{byteOf, typeOf, types, typeIn}
 use Rattle.packet.specs.Header.{newHeader, parsedOf, headerBytes}
-use Rattle.packet.specs.Reply.{replyHeader, packetOf}
+use Rattle.packet.specs.Reply.{packetOf}
 use Rattle.packet.proofs.Sizes.{length-header, reply-header}
 
 -- the first bytes of a list that they make

@@ -1,5 +1,5 @@
 -- The packet header (MS-TDS 2.2.3.1): type, status, length, spid, number, window; length and spid are big-endian.
--- Rests on the numbers of wire and on Kind.
+-- Rests on the numbers of wire and on Types.
 use Prim.Native.Nat.{ℕ}
 use mathlib.Core.Bool.{cond}
 use mathlib.Core.List.{List, _++_}
@@ -10,11 +10,10 @@ use Rattle.wire.specs.Be.{beAt, be}
 use Rattle.packet.specs.declared.PacketType.{PacketType}
 use Rattle.packet.specs.declared.KnownType.{KnownType}
 use Rattle.packet.specs.declared.KnownType.the-variants.{Known, Unknown}
-use Rattle.packet.specs.declared.PacketStatus.{PacketStatus}
 use Rattle.packet.specs.declared.PacketHeader.{PacketHeader}
 use Rattle.packet.specs.declared.Parsed.{Parsed}
 use Rattle.packet.specs.declared.Parsed.the-variants.{Header, Refused}
-use Rattle.packet.specs.Kind.{byteOf, typeOf}
+use Rattle.packet.specs.Types.{byteOf, typeOf}
 
 -- the header of a message's only packet: status end of message, spid and window 0
 abbrev pub newHeader : PacketType → ℕ → ℕ → PacketHeader

@@ -1,4 +1,4 @@
-pub mod Kind
+pub mod Types
 pub mod Status
 pub mod Header
 pub mod Reply

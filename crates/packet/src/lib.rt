@@ -2,7 +2,7 @@
 // of a reply. Stands for `PacketType`, `PacketStatus`, `PacketHeader` and `wrap_in_packet` of the Rust.
 ghost use mathlib.Core.Path.{_≡_};
 ghost use Rattle.wire.specs.Over.{Wrote};
-ghost use Rattle.packet.specs.Kind.{byteOf, typeOf};
+ghost use Rattle.packet.specs.Types.{byteOf, typeOf};
 ghost use Rattle.packet.specs.Status.{hasBit};
 ghost use Rattle.packet.specs.Header.{newHeader, parsedOf, headerBytes};
 ghost use Rattle.packet.specs.Reply.{replyHeader};

@@ -1,7 +1,7 @@
 -- What an export answers: a number and the values of its first slots, or a refusal. Rests on wire's `overwrite`.
 use Prim.Native.Nat.{ℕ}
 use mathlib.Core.Bool.{cond}
-use mathlib.Core.List.{List, []}
+use mathlib.Core.List.{List}
 use lib.ListN.{length}
 use lib.Dec.{ltb}
 use lib.IntN.{ℤ, pos, negℤ}

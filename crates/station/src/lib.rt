@@ -1,15 +1,23 @@
 // The station unit's calls for C and Rust, on numbers and lent slices (include/station.h declares them).
 // Every answer is an i64: 0 or more as said, or -N for refusal N with nothing written. `out` is lent for numbers: the
 // first slots are written, and fewer slots than needed is -20, after all other refusals.
+// A call's contract is its outcome (specs/Calls.antt) as answer and as slots; it ends by `refused` or by `answered`.
+mod slots;
+
 ghost use mathlib.Core.Path.{_≡_};
-ghost use Prim.Native.Nat.{_<_, _^_};
-ghost use Rattle.station.specs.Answer.{answers, refuses, numberOf, answerOf, slotsOf};
-ghost use Rattle.station.specs.Calls.{headerOutcome, headerCall};
+ghost use Rattle.station.specs.Answer.{numberOf, answerOf, slotsOf};
+ghost use Rattle.station.specs.Calls.{headerOutcome, headerCall, whitespaceCall, textOutcome, textCall};
 use packet::PacketHeader;
 use packet::Parsed;
+use slots::answered;
+use slots::flag;
+use slots::refused;
 
-// The lent slots are too few.
-const TOO_FEW_SLOTS: u8 = 20;
+// Refusals that the caller causes.
+// A text argument of an odd number of bytes.
+const ODD_TEXT: u8 = 21;
+// A text argument that is not UTF-16.
+const NOT_UTF16: u8 = 22;
 
 // 0: type, status, length, spid, number and window of a packet header.
 #[no_mangle]
@@ -39,26 +47,38 @@ fn tell_header(header: PacketHeader, out: &mut [u64]) -> i64
     answered(out, 0, &values)
 }
 
-// An answer with its slots: how every export that has slots ends where nothing else refuses.
-fn answered(out: &mut [u64], number: usize, values: &[u64]) -> i64
-    requires { ⌜ number < 2 ^ 63 ⌝ }
-    ensures { λ r. ⌜ r ≡ answerOf (answers number (now (values .entry))) (now (out .entry)) ⌝ }
-    ensures { λ _. ⌜ now (out .exit) ≡ slotsOf (answers number (now (values .entry))) (now (out .entry)) ⌝ }
+// 1 where trimming removes the unit, else 0.
+#[no_mangle]
+pub extern "C" fn station_is_whitespace(unit: u16) -> i64
+    ensures { λ r. ⌜ r ≡ numberOf (whitespaceCall unit) ⌝ }
 {
-    if out.len() < values.len() {
-        return refused(TOO_FEW_SLOTS);
-    }
-    let mut i = 0;
-    while i < values.len() {
-        out[i] = values[i];
-        i += 1;
-    }
-    number as i64
+    if text::is_whitespace(unit) { 1 } else { 0 }
 }
 
-// The answer of a refusal.
-fn refused(number: u8) -> i64
-    ensures { λ r. ⌜ r ≡ numberOf (refuses number) ⌝ }
+// 0: a text's units, characters and bytes as UTF-8, and 1 where a surrogate pair stands in it, else 0.
+#[no_mangle]
+pub extern "C" fn station_text(text: &[u8], out: &mut [u64]) -> i64
+    ensures { λ r. ⌜ r ≡ answerOf (textCall (now (text .entry))) (now (out .entry)) ⌝ }
+    ensures { λ _. ⌜ now (out .exit) ≡ slotsOf (textCall (now (text .entry))) (now (out .entry)) ⌝ }
 {
-    -(number as i64)
+    if text.len() % 2 != 0 {
+        return refused(ODD_TEXT);
+    }
+    if !text::is_well_formed(text) {
+        return refused(NOT_UTF16);
+    }
+    tell_text(text, out)
+}
+
+fn tell_text(text: &[u8], out: &mut [u64]) -> i64
+    ensures { λ r. ⌜ r ≡ answerOf (textOutcome (now (text .entry))) (now (out .entry)) ⌝ }
+    ensures { λ _. ⌜ now (out .exit) ≡ slotsOf (textOutcome (now (text .entry))) (now (out .entry)) ⌝ }
+{
+    let values = [
+        text::units(text) as u64,
+        text::characters(text) as u64,
+        text::utf8_length(text) as u64,
+        flag(text::has_pair(text)),
+    ];
+    answered(out, 0, &values)
 }

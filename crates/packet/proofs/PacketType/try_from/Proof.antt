@@ -1,6 +1,6 @@
 -- `packet::PacketType::try_from` meets its contract. Assumes nothing.
 use borrow.Author.Tests.{ne-eqb}
-use Rattle.packet.specs.Kind.{typeOf, types, typeIn}
+use Rattle.packet.specs.Types.{typeOf, types, typeIn}
 use Rattle.packet.proofs.PacketType.try_from.Statement.{statement}
 use Rattle.packet.proofs.PacketType.try_from.Tie as tie
 

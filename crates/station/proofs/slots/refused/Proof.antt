@@ -1,10 +1,10 @@
--- `station::refused` meets its contract. Assumes nothing.
+-- `station::slots::refused` meets its contract. Assumes nothing.
 use Rattle.station.specs.Answer.{numberOf}
 use native.Mathlib.Omega.{arith}
 use Rattle.station.proofs.Signs.{minus-fits, minus}
 use borrow.Author.Needs.{needs}
-use Rattle.station.proofs.refused.Statement.{statement}
-use Rattle.station.proofs.refused.Tie as tie
+use Rattle.station.proofs.slots.refused.Statement.{statement}
+use Rattle.station.proofs.slots.refused.Tie as tie
 
 cast-result : tie.Need-cast-result
 cast-result c = search needs

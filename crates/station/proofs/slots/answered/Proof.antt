@@ -1,4 +1,4 @@
--- `station::answered` meets its contract. The loop's invariant: the first i values are written over the slots that were lent, the rest stands.
+-- `station::slots::answered` meets its contract. The loop's invariant: the first i values are written over the slots that were lent, the rest stands.
 -- Assumes nothing.
 use Rattle.station.proofs.Ends.{too-few, written}
 use lib.Seq.{take-all}
@@ -11,8 +11,8 @@ use mathlib.Core.Path.{_≡_, refl}
 use native.Mathlib.Omega.{arith}
 use borrow.Author.Needs.{needs}
 use denote.Ref.{now}
-use Rattle.station.proofs.answered.Statement.{statement}
-use Rattle.station.proofs.answered.Tie as tie
+use Rattle.station.proofs.slots.answered.Statement.{statement}
+use Rattle.station.proofs.slots.answered.Tie as tie
 
 abbrev Inv-loop : tie.InvT-loop
 Inv-loop out₀ number values i₀ out i = (i ≤ length values) × (length out ≡ length out₀) × (out ≡ overwrite out₀ 0 (take i values))
