@@ -1,0 +1,59 @@
+// The calls, a function each: it gets the input, puts its lines to out from at on, and answers the place behind them.
+use crate::lines;
+use packet::PacketHeader;
+use packet::PacketStatus;
+use packet::Parsed;
+
+pub(crate) enum Call {
+    Header,
+    Unknown,
+}
+
+// The call that an argument of the program names.
+pub(crate) fn named(argument: usize) -> Call {
+    let mut name = [0u8; 16];
+    let n = os::arg(argument, &mut name);
+    if check::same(&name[..n], b"header") {
+        return Call::Header;
+    }
+    Call::Unknown
+}
+
+// The lines of a call's answer.
+pub(crate) fn answer(call: Call, input: &[u8], out: &mut [u8], at: usize) -> usize {
+    match call {
+        Call::Header => answer_header(input, out, at),
+        Call::Unknown => at,
+    }
+}
+
+fn answer_header(input: &[u8], out: &mut [u8], at: usize) -> usize {
+    match PacketHeader::parse(input) {
+        Parsed::Header(header) => header_line(header, out, at),
+        Parsed::Refused(number) => lines::refused(out, at, number),
+    }
+}
+
+// header TYPE STATUS LENGTH SPID NUMBER WINDOW eom=B ignore=B
+fn header_line(header: PacketHeader, out: &mut [u8], at: usize) -> usize {
+    let packet_type = header.packet_type;
+    let at = lines::text(out, at, b"header ");
+    let at = lines::hex(out, at, packet_type.byte());
+    let at = lines::text(out, at, b" ");
+    let at = lines::hex(out, at, header.status.0);
+    header_numbers(header, out, at)
+}
+
+fn header_numbers(header: PacketHeader, out: &mut [u8], at: usize) -> usize {
+    let at = lines::number(out, at, header.length as u64);
+    let at = lines::number(out, at, header.spid as u64);
+    let at = lines::number(out, at, header.packet_id as u64);
+    let at = lines::number(out, at, header.window as u64);
+    status_words(header.status, out, at)
+}
+
+fn status_words(status: PacketStatus, out: &mut [u8], at: usize) -> usize {
+    let at = lines::flag(out, at, b" eom=", PacketStatus::is_end_of_message(status));
+    let at = lines::flag(out, at, b" ignore=", PacketStatus::is_ignore(status));
+    lines::end(out, at)
+}

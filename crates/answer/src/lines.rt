@@ -1,0 +1,68 @@
+// Text that gathers in a lent buffer: each function puts its part to out from at on, writes out what stands there where
+// room is short, and answers the place behind its part.
+use libc::STDOUT_FILENO;
+use wire::Part;
+
+// Writes what stands before at to standard output; the buffer is empty then.
+pub(crate) fn flush(out: &[u8], at: usize) -> usize {
+    io::write_all(
+        STDOUT_FILENO,
+        wire::part_of(out, Part { start: 0, len: at }),
+    );
+    0
+}
+
+pub(crate) fn text(out: &mut [u8], at: usize, bytes: &[u8]) -> usize {
+    let at = room(out, at, bytes.len());
+    wire::put_slice(out, at, bytes)
+}
+
+// A number in decimal, behind a space.
+pub(crate) fn number(out: &mut [u8], at: usize, n: u64) -> usize {
+    let mut digits = [0u8; 20];
+    let k = io::decimal(n, &mut digits);
+    let at = text(out, at, b" ");
+    text(out, at, &digits[..k])
+}
+
+// A byte as two digits in upper-case hexadecimal.
+pub(crate) fn hex(out: &mut [u8], at: usize, byte: u8) -> usize {
+    let at = room(out, at, 2);
+    let at = wire::put_u8(out, at, digit(byte / 16));
+    wire::put_u8(out, at, digit(byte % 16))
+}
+
+// A word and 1 or 0.
+pub(crate) fn flag(out: &mut [u8], at: usize, word: &[u8], set: bool) -> usize {
+    let at = text(out, at, word);
+    if set {
+        text(out, at, b"1")
+    } else {
+        text(out, at, b"0")
+    }
+}
+
+// The line of a refusal.
+pub(crate) fn refused(out: &mut [u8], at: usize, refusal: u8) -> usize {
+    let at = text(out, at, b"refused");
+    let at = number(out, at, refusal as u64);
+    end(out, at)
+}
+
+// The end of a line.
+pub(crate) fn end(out: &mut [u8], at: usize) -> usize {
+    let at = room(out, at, 1);
+    wire::put_u8(out, at, b'\n')
+}
+
+// The place to go on at, with room for n bytes.
+fn room(out: &[u8], at: usize, n: usize) -> usize {
+    if n <= wire::left(out, at) {
+        return at;
+    }
+    flush(out, at)
+}
+
+fn digit(n: u8) -> u8 {
+    if n < 10 { b'0' + n } else { b'A' - 10 + n % 16 }
+}

@@ -1,0 +1,44 @@
+// `answer CALL`: one call of the crates, its input on standard input, its answer as lines of text.
+// `answer many CALL`: any number of inputs, each a 4-byte little-endian length and the bytes; an empty line follows each answer.
+mod calls;
+mod lines;
+mod runs;
+
+use calls::Call;
+
+fn main() {
+    let mut name = [0u8; 16];
+    let first = os::arg(1, &mut name);
+    if check::same(&name[..first], b"many") {
+        many(calls::named(2));
+    } else {
+        once(calls::named(1));
+    }
+}
+
+fn once(call: Call) {
+    if let Call::Unknown = call {
+        return usage();
+    }
+    let mut input = [0u8; runs::ROOM];
+    let mut out = io::large_buffer();
+    let at = runs::once(call, &mut input, &mut out);
+    lines::flush(&out, at);
+}
+
+fn many(call: Call) {
+    if let Call::Unknown = call {
+        return usage();
+    }
+    let mut input = [0u8; runs::ROOM];
+    let mut out = io::large_buffer();
+    let at = runs::many(call, &mut input, &mut out);
+    lines::flush(&out, at);
+}
+
+fn usage() {
+    io::write_all(
+        libc::STDOUT_FILENO,
+        b"usage: answer [many] CALL, where CALL is one of: header\n",
+    );
+}

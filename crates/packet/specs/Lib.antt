@@ -1,0 +1,4 @@
+pub mod Types
+pub mod Status
+pub mod Header
+pub mod Reply

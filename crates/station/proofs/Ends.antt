@@ -1,0 +1,37 @@
+-- How exports end: one law for each way, over the outcome, the lent slots and the number. Assumes nothing.
+use Prim.Native.Nat.{ℕ, _^_, _<_, _≤_}
+use mathlib.Core.Path.{_≡_, refl, sym, _∙_}
+use mathlib.Core.List.{List}
+use lib.ListN.{length}
+use lib.IntN.{ℤ}
+use lib.Signed.{mag}
+use mir.Syntax.{w64}
+use mir.Val.{toZ, ofZ}
+use mir.Facts.{toZ-ofZ, toZ-pos}
+use borrow.Author.Tests.{lt-ltb, le-ltb}
+use Rattle.wire.specs.Over.{overwrite}
+use Rattle.station.specs.Answer.{Outcome, answers, refuses, numberOf, lent, filled, answerOf, slotsOf}
+
+-- an export's two promises: its answer r and what it left in the slots
+abbrev pub Ended : Outcome → List ℕ → List ℕ → ℤ → Type 0
+Ended o out left r = (r ≡ answerOf o out) × (left ≡ slotsOf o out)
+
+-- what a callee answered is handed on
+pub passed : {o p : Outcome} {left : List ℕ} {r : ℤ} (out : List ℕ) → mag r < 2 ^ 63 → Ended o out left r → o ≡ p → Ended p out left (toZ w64 (ofZ w64 r))
+passed out fits e q = rw (sym q) (toZ-ofZ {w = w64} (record { sfits = fits }) ∙ e .0, e .1)
+
+-- a refusal: the slots are as they were
+pub stopped : {p : Outcome} {n : ℕ} {r : ℤ} (out : List ℕ) → mag r < 2 ^ 63 → r ≡ numberOf (refuses n) → refuses n ≡ p → Ended p out out (toZ w64 (ofZ w64 r))
+unfolding answerOf slotsOf lent filled
+stopped out fits e q = rw (sym q) (toZ-ofZ {w = w64} (record { sfits = fits }) ∙ e, refl)
+
+-- too few slots
+pub too-few : {r : ℤ} (n : ℕ) (out xs : List ℕ) → length out < length xs → mag r < 2 ^ 63 → r ≡ numberOf (refuses 20)
+    → Ended (answers n xs) out out (toZ w64 (ofZ w64 r))
+unfolding answerOf slotsOf lent filled
+too-few n out xs h fits e = simp (lt-ltb _ _ h) (toZ-ofZ {w = w64} (record { sfits = fits }) ∙ e, refl)
+
+-- enough of them, and all values written
+pub written : (n : ℕ) (out xs left : List ℕ) → length xs ≤ length out → n < 2 ^ 63 → left ≡ overwrite out 0 xs → Ended (answers n xs) out left (toZ w64 n)
+unfolding answerOf slotsOf lent filled numberOf
+written n out xs left h fits e = simp (le-ltb _ _ h) (toZ-pos w64 fits, e)

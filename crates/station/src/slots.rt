@@ -1,0 +1,39 @@
+// How an export ends: with its number and its slots, or with a refusal.
+ghost use mathlib.Core.Path.{_≡_};
+ghost use mathlib.Core.Bool.{cond};
+ghost use Prim.Native.Nat.{_<_, _^_};
+ghost use Rattle.station.specs.Answer.{answers, refuses, numberOf, answerOf, slotsOf};
+
+// The lent slots are too few.
+const TOO_FEW_SLOTS: u8 = 20;
+
+// The last step of an export that has slots, after all its other refusals: its number, and the values of the first slots.
+pub(crate) fn answered(out: &mut [u64], number: usize, values: &[u64]) -> i64
+    requires { ⌜ number < 2 ^ 63 ⌝ }
+    ensures { λ r. ⌜ r ≡ answerOf (answers number (now (values .entry))) (now (out .entry)) ⌝ }
+    ensures { λ _. ⌜ now (out .exit) ≡ slotsOf (answers number (now (values .entry))) (now (out .entry)) ⌝ }
+{
+    if out.len() < values.len() {
+        return refused(TOO_FEW_SLOTS);
+    }
+    let mut i = 0;
+    while i < values.len() {
+        out[i] = values[i];
+        i += 1;
+    }
+    number as i64
+}
+
+// A refusal's answer.
+pub(crate) fn refused(number: u8) -> i64
+    ensures { λ r. ⌜ r ≡ numberOf (refuses number) ⌝ }
+{
+    -(number as i64)
+}
+
+// The value of a test: 1 or 0.
+pub(crate) fn flag(test: bool) -> u64
+    ensures { λ r. ⌜ r ≡ cond test 1 0 ⌝ }
+{
+    if test { 1 } else { 0 }
+}
