@@ -1,11 +1,16 @@
 // The calls, a function each: it gets the input, puts its lines to out from at on, and answers the place behind them.
 use crate::lines;
+use crate::requests;
 use packet::PacketHeader;
 use packet::PacketStatus;
 use packet::Parsed;
 
 pub(crate) enum Call {
     Header,
+    Batch,
+    Transaction,
+    Descriptor,
+    FedAuth,
     Unknown,
 }
 
@@ -13,8 +18,21 @@ pub(crate) enum Call {
 pub(crate) fn named(argument: usize) -> Call {
     let mut name = [0u8; 16];
     let n = os::arg(argument, &mut name);
-    if check::same(&name[..n], b"header") {
+    let word = &name[..n];
+    if check::same(word, b"header") {
         return Call::Header;
+    }
+    if check::same(word, b"batch") {
+        return Call::Batch;
+    }
+    if check::same(word, b"trans") {
+        return Call::Transaction;
+    }
+    if check::same(word, b"descriptor") {
+        return Call::Descriptor;
+    }
+    if check::same(word, b"fedauth") {
+        return Call::FedAuth;
     }
     Call::Unknown
 }
@@ -23,6 +41,10 @@ pub(crate) fn named(argument: usize) -> Call {
 pub(crate) fn answer(call: Call, input: &[u8], out: &mut [u8], at: usize) -> usize {
     match call {
         Call::Header => answer_header(input, out, at),
+        Call::Batch => requests::batch(input, out, at),
+        Call::Transaction => requests::transaction(input, out, at),
+        Call::Descriptor => requests::descriptor(input, out, at),
+        Call::FedAuth => requests::fedauth(input, out, at),
         Call::Unknown => at,
     }
 }

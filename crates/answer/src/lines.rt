@@ -37,6 +37,12 @@ pub(crate) fn numbers(out: &mut [u8], from: usize, values: &[u64]) -> usize {
     at
 }
 
+// A word, and a part's start and length.
+pub(crate) fn part(out: &mut [u8], at: usize, word: &[u8], part: Part) -> usize {
+    let at = text(out, at, word);
+    numbers(out, at, &[part.start as u64, part.len as u64])
+}
+
 // Bytes in upper-case hexadecimal, behind a space; `-` where there are none.
 pub(crate) fn bytes(out: &mut [u8], at: usize, s: &[u8]) -> usize {
     if s.len() == 0 {
