@@ -1,5 +1,6 @@
 // The calls, a function each: it gets the input, puts its lines to out from at on, and answers the place behind them.
 use crate::lines;
+use crate::logins;
 use crate::requests;
 use packet::PacketHeader;
 use packet::PacketStatus;
@@ -11,6 +12,7 @@ pub(crate) enum Call {
     Transaction,
     Descriptor,
     FedAuth,
+    Login,
     Unknown,
 }
 
@@ -34,6 +36,9 @@ pub(crate) fn named(argument: usize) -> Call {
     if check::same(word, b"fedauth") {
         return Call::FedAuth;
     }
+    if check::same(word, b"login") {
+        return Call::Login;
+    }
     Call::Unknown
 }
 
@@ -45,6 +50,7 @@ pub(crate) fn answer(call: Call, input: &[u8], out: &mut [u8], at: usize) -> usi
         Call::Transaction => requests::transaction(input, out, at),
         Call::Descriptor => requests::descriptor(input, out, at),
         Call::FedAuth => requests::fedauth(input, out, at),
+        Call::Login => logins::answer(input, out, at),
         Call::Unknown => at,
     }
 }

@@ -38,9 +38,9 @@ pub(crate) fn numbers(out: &mut [u8], from: usize, values: &[u64]) -> usize {
 }
 
 // A word, and a part's start and length.
-pub(crate) fn part(out: &mut [u8], at: usize, word: &[u8], part: Part) -> usize {
+pub(crate) fn part(out: &mut [u8], at: usize, word: &[u8], place: Part) -> usize {
     let at = text(out, at, word);
-    numbers(out, at, &[part.start as u64, part.len as u64])
+    numbers(out, at, &[place.start as u64, place.len as u64])
 }
 
 // Bytes in upper-case hexadecimal, behind a space; `-` where there are none.
@@ -84,11 +84,22 @@ pub(crate) fn flag(out: &mut [u8], at: usize, word: &[u8], set: bool) -> usize {
     }
 }
 
+// A line of a word and a number.
+pub(crate) fn number_line(out: &mut [u8], at: usize, word: &[u8], n: u64) -> usize {
+    let at = text(out, at, word);
+    let at = number(out, at, n);
+    end(out, at)
+}
+
+// A line of a word and a part.
+pub(crate) fn part_line(out: &mut [u8], at: usize, word: &[u8], place: Part) -> usize {
+    let at = part(out, at, word, place);
+    end(out, at)
+}
+
 // The line of a refusal.
 pub(crate) fn refused(out: &mut [u8], at: usize, refusal: u8) -> usize {
-    let at = text(out, at, b"refused");
-    let at = number(out, at, refusal as u64);
-    end(out, at)
+    number_line(out, at, b"refused", refusal as u64)
 }
 
 // The end of a line.

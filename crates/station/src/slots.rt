@@ -6,7 +6,7 @@ ghost use Prim.Native.Nat.{_<_, _^_};
 ghost use Rattle.station.specs.Answer.{answers, answersPart, refuses, numberOf, answerOf, slotsOf};
 
 // The lent slots are too few.
-const TOO_FEW_SLOTS: u8 = 20;
+pub(crate) const TOO_FEW_SLOTS: u8 = 20;
 
 // The last step of an export that has slots, after all its other refusals: its number, and the values of the first slots.
 pub(crate) fn answered(out: &mut [u64], number: usize, values: &[u64]) -> i64
