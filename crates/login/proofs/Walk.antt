@@ -81,19 +81,26 @@ past s at =
     (λ h. let e : min at (length s) ≡ at = omega arith in rw e)
     (λ h. no-more s (min at (length s)) (omega arith) ∙ sym (no-more s at (omega arith)))
 
--- What a loop over features needs, from the answer of `feature_at`: where the feature lies, and the features from there on.
-pub lies : (s : List ℕ) (at : ℕ) {r : Found} {f : Feature} → Lies s at r → r ≡ Here f → (f .part .start ≡ at + 5) × (at + 5 ≤ length s)
-unfolding Lies
-lies s at l h = rw h at l
-
+-- What a loop over features needs, from the answer of `feature_at`: no feature, or where the feature lies, and the features
+-- from the place on, where the next one is looked for behind its data.
 pub ends : (s : List ℕ) (at : ℕ) {r : Found} → featuresFrom s at ≡ follow s r → r ≡ End → featuresFrom s at ≡ []
 unfolding follow
 ends s at e h = e ∙ ap (follow s) h
 
-pub turn : (s : List ℕ) (at : ℕ) {r : Found} {f : Feature} {next : ℕ}
-    → featuresFrom s at ≡ follow s r → r ≡ Here f → next ≡ min (f .part .start + f .part .len) (length s) → featuresFrom s at ≡ f ∷ featuresFrom s next
-unfolding follow
-turn s at {f = f} e h n = e ∙ ap (follow s) h ∙ ap (_∷_ f) (sym (rw n (past s (f .part .start + f .part .len))))
+pub record Stands (s : List ℕ) (at : ℕ) (f : Feature) : Type 0 where
+  pub start : f .part .start ≡ at + 5
+  pub whole : at + 5 ≤ length s
+  pub turn : {next : ℕ} → next ≡ min (f .part .start + f .part .len) (length s) → featuresFrom s at ≡ f ∷ featuresFrom s next
+
+pub stands : (s : List ℕ) (at : ℕ) {r : Found} {f : Feature} → featuresFrom s at ≡ follow s r → Lies s at r → r ≡ Here f → Stands s at f
+unfolding follow Lies
+stands s at {f = f} e l h =
+    let lies = rw h at l in
+    record {
+      start = lies .0;
+      whole = lies .1;
+      turn = λ n. e ∙ ap (follow s) h ∙ ap (_∷_ f) (sym (rw n (past s (f .part .start + f .part .len))));
+    }
 
 -- the features of a login are those from their start on
 pub from-start : (s : List ℕ) → features s ≡ featuresFrom s (featuresAt s)

@@ -1,5 +1,5 @@
--- What a login says by its fixed part and its table of offsets and lengths (MS-TDS 2.2.6.4; document 01, 'Requests and
--- logins'). Places count from the body's first byte. Rests on wire and text.
+-- What a login says by its fixed part and its table of offsets and lengths (MS-TDS 2.2.6.4, LOGIN7; document 01, 'Requests
+-- and logins'). Places count from the body's first byte. Rests on wire and text.
 use Prim.Native.Nat.{ℕ, _+_, _*_, _/_, _%_}
 use mathlib.Core.List.{List}
 use mathlib.Core.Bool.{Bool, cond, _&&_}
@@ -26,14 +26,14 @@ textAt s entry =
     let p = partAt s entry in
     cond (leb (entry + 4) (length s) && ltb 0 (p .len) && within s p && wellFormed (bytesOf s p)) (At p) Missing
 
--- OptionFlags3 has fExtension, and the entry ibExtension is whole
+-- OptionFlags3 (at 27) has fExtension, and the entry ibExtension (at 56) is whole
 unfoldable pub hasExtension : List ℕ → Bool
 hasExtension s = leb 60 (length s) && eqb (leAt 1 (drop 27 s) / 0x10 % 2) 1
 
--- ibExtension: where the offset of the features stands
+-- ibExtension: where the offset of the features stands, in 4 bytes. The length beside it is not looked at.
 unfoldable pub extension : List ℕ → ℕ
 extension s = leAt 2 (drop 56 s)
 
--- where the features start, which may be anywhere; of a login that has none, its end
+-- where the features start; of a login that has none, its end. The Rust lets the offset point anywhere, into the fixed part too.
 unfoldable pub featuresAt : List ℕ → ℕ
 featuresAt s = cond (hasExtension s && leb (extension s + 4) (length s)) (leAt 4 (drop (extension s) s)) (length s)

@@ -13,8 +13,8 @@ use Rattle.login.specs.declared.Found.the-variants.{Here, End}
 use Rattle.login.specs.Body.{featuresAt}
 
 -- The features in the bytes that stand from a place of the body on, of which the first n, the data of the feature before,
--- are passed over. Fewer than five bytes are no feature. Data that run past the end are passed over up to it: such a
--- feature counts, and is the last.
+-- are passed over. Fewer than five bytes are no feature. A feature whose data run past the end counts, as in the Rust, and is
+-- the last.
 unfoldable pub walk : (at n : ℕ) → List ℕ → List Feature
 unfolding leAt
 walk at (suc n) [] = []
@@ -28,7 +28,7 @@ walk at zero (a ∷ b ∷ c ∷ d ∷ e ∷ l) =
     let n = leAt 4 (b ∷ c ∷ d ∷ e ∷ []) in
     cond (eqb a 0xff) [] (record { id = a; part = record { start = at + 5; len = n } } ∷ walk (at + 5) n l)
 
--- the features of a login
+-- the features of a login: those behind all that stands before the first
 unfoldable pub features : List ℕ → List Feature
 features s = walk 0 (featuresAt s) s
 

@@ -17,11 +17,11 @@ use Rattle.login.specs.Body.{textAt}
 use Rattle.login.specs.Features.{features, idsOf}
 use Rattle.login.specs.Rules.{sessionAfter, fedauthAfter, libraryAfter, workflowAfter, tokenAfter, versionAfter, userAgentAfter}
 
--- the login's own database
+-- the login's own database: the text of the entry ibDatabase, at 68
 unfoldable pub databasePart : List ℕ → Text
 databasePart s = textAt s 68
 
--- a login before its features: the server name of the entry ibServerName, and the database
+-- a login before its features: the server name, which is the text of the entry ibServerName, at 52, and the database
 unfoldable pub headOf : List ℕ → Login
 headOf s =
     record {
@@ -57,8 +57,8 @@ unfoldable pub loginOf : List ℕ → Login
 loginOf s = foldl (after s) (headOf s) (features s)
 
 -- the answer where room bytes are lent for the feature ids: the login and their number, or 20
-unfoldable pub answerOf : List ℕ → (room : ℕ) → Answer
-answerOf s room =
+unfoldable pub parseLogin7 : List ℕ → (room : ℕ) → Answer
+parseLogin7 s room =
     let n = length (features s) in
     cond (ltb room n) (Refused 20) (Read (loginOf s) n)
 

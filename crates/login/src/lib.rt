@@ -9,9 +9,9 @@ ghost use Rattle.wire.specs.Over.{overwrite};
 ghost use Rattle.login.specs.Body.{textAt, featuresAt};
 ghost use Rattle.login.specs.Features.{featuresFrom, follow, Lies, idsOf};
 ghost use Rattle.login.specs.Rules.{byteAt, whole, hasOptions, libraryIn, sessionAfter, fedauthAfter, libraryAfter, workflowAfter, tokenAfter, versionAfter, userAgentAfter};
-ghost use Rattle.login.specs.Login.{headOf, after, answerOf, idsAfter, databasePart, databaseOf};
+ghost use Rattle.login.specs.Login.{headOf, after, parseLogin7, idsAfter, databasePart, databaseOf};
 
-// A text as a part of the body.
+// A text or a token as a part of the body, counted from its first byte.
 pub enum Text {
     At(Part),
     Missing,
@@ -118,7 +118,7 @@ struct Feature {
     part: Part,
 }
 
-// What stands at a place: a feature, or none any more.
+// A feature, or none any more.
 enum Found {
     Here(Feature),
     End,
@@ -127,6 +127,7 @@ enum Found {
 // A feature's id and length.
 const FEATURE_HEAD: usize = 5;
 
+// What stands at a place. A feature counts once its id and length are whole.
 fn feature_at(body: &[u8], at: usize) -> Found
     ensures { λ r. ⌜ featuresFrom (now (body .entry)) at ≡ follow (now (body .entry)) r ⌝ }
     ensures { λ r. ⌜ Lies (now (body .entry)) at r ⌝ }
@@ -158,8 +159,8 @@ fn behind(body: &[u8], part: Part) -> usize
     part.start + part.len
 }
 
-// What each feature does to a value of the login, which was so before it. held is what the body
-// holds of the feature's data.
+// What a feature does to each value of the login: `was` is the value before it, `held` what the body holds of its data.
+// The byte at a place of the data.
 fn byte_at(held: &[u8], at: usize) -> Byte
     ensures { λ r. ⌜ r ≡ byteAt (drop at (now (held .entry))) ⌝ }
 {
@@ -169,12 +170,14 @@ fn byte_at(held: &[u8], at: usize) -> Byte
     Byte::Absent
 }
 
+// Whether the data do not run past the body's end.
 fn is_whole(feature: Feature, held: &[u8]) -> bool
     ensures { λ r. ⌜ r ≡ whole feature (now (held .entry)) ⌝ }
 {
     feature.part.len <= held.len()
 }
 
+// The session state, by each SESSIONRECOVERY.
 fn session_after(feature: Feature, was: bool) -> bool
     ensures { λ r. ⌜ r ≡ sessionAfter feature was ⌝ }
 {
@@ -184,24 +187,28 @@ fn session_after(feature: Feature, was: bool) -> bool
     0 < feature.part.len
 }
 
+// Whether a FEDAUTH was there.
 fn fedauth_after(feature: Feature, was: bool) -> bool
     ensures { λ r. ⌜ r ≡ fedauthAfter feature was ⌝ }
 {
     (feature.id == FEATURE_EXT_FEDAUTH) | was
 }
 
+// Whether this is a FEDAUTH with options.
 fn has_options(feature: Feature, held: &[u8]) -> bool
     ensures { λ r. ⌜ r ≡ hasOptions feature (now (held .entry)) ⌝ }
 {
     (feature.id == FEATURE_EXT_FEDAUTH) & is_whole(feature, held) & (0 < held.len())
 }
 
+// The library that options name.
 fn library_in(held: &[u8]) -> u8
     ensures { λ r. ⌜ r ≡ libraryIn (now (held .entry)) ⌝ }
 {
     wire::get_u8(held, 0) / 2 % 4
 }
 
+// The library, by each FEDAUTH with options.
 fn library_after(feature: Feature, held: &[u8], was: u8) -> u8
     ensures { λ r. ⌜ r ≡ libraryAfter feature (now (held .entry)) was ⌝ }
 {
@@ -211,6 +218,7 @@ fn library_after(feature: Feature, held: &[u8], was: u8) -> u8
     library_in(held)
 }
 
+// The workflow, by each FEDAUTH of the library MSAL.
 fn workflow_after(feature: Feature, held: &[u8], was: Byte) -> Byte
     ensures { λ r. ⌜ r ≡ workflowAfter feature (now (held .entry)) was ⌝ }
 {
@@ -223,6 +231,7 @@ fn workflow_after(feature: Feature, held: &[u8], was: Byte) -> Byte
     byte_at(held, 1)
 }
 
+// The token, by each FEDAUTH that holds one.
 fn token_after(feature: Feature, held: &[u8], was: Text) -> Text
     requires { ⌜ feature .part .start + length (now held) < 2 ^ 64 ⌝ }
     ensures { λ r. ⌜ r ≡ tokenAfter feature (now (held .entry)) was ⌝ }
@@ -246,6 +255,7 @@ fn token_after(feature: Feature, held: &[u8], was: Text) -> Text
     })
 }
 
+// The classification version, by each DATACLASSIFICATION that says to have data.
 fn version_after(feature: Feature, held: &[u8], was: Byte) -> Byte
     ensures { λ r. ⌜ r ≡ versionAfter feature (now (held .entry)) was ⌝ }
 {
@@ -258,6 +268,7 @@ fn version_after(feature: Feature, held: &[u8], was: Byte) -> Byte
     byte_at(held, 0)
 }
 
+// The user agent, by each USERAGENT that is a text.
 fn user_agent_after(feature: Feature, held: &[u8], was: Text) -> Text
     ensures { λ r. ⌜ r ≡ userAgentAfter feature (now (held .entry)) was ⌝ }
 {
@@ -317,12 +328,13 @@ fn head(body: &[u8]) -> Login
     }
 }
 
-// The login with all its features, of which the first stands at a place, and how many there are.
+// A login behind its features, and how many they are.
 struct Walked {
     login: Login,
     count: usize,
 }
 
+// The login behind all its features, of which the first stands at a place.
 fn read_features(body: &[u8], first: usize) -> Walked
     ensures { λ r. ⌜ r .login ≡ foldl (after (now (body .entry))) (headOf (now (body .entry))) (featuresFrom (now (body .entry)) first) ⌝ }
     ensures { λ r. ⌜ r .count ≡ length (featuresFrom (now (body .entry)) first) ⌝ }
@@ -365,10 +377,10 @@ fn write_ids(body: &[u8], first: usize, ids: &mut [u8])
     }
 }
 
-// What a login's body says. Its feature ids go to the first of the bytes lent for them; nothing is written where they are
-// too few.
+// What the body of a login says. Its feature ids go to the first of the bytes lent for them; nothing is written where these
+// are too few.
 pub fn parse_login7(body: &[u8], ids: &mut [u8]) -> Answer
-    ensures { λ r. ⌜ r ≡ answerOf (now (body .entry)) (length (now (ids .entry))) ⌝ }
+    ensures { λ r. ⌜ r ≡ parseLogin7 (now (body .entry)) (length (now (ids .entry))) ⌝ }
     ensures { λ _. ⌜ now (ids .exit) ≡ idsAfter (now (body .entry)) (now (ids .entry)) ⌝ }
 {
     let first = features_at(body);

@@ -1,9 +1,9 @@
--- `login::read_features` meets its contract. Assumes nothing.
-use mathlib.Core.List.{List, _∷_, foldl}
-use Prim.Native.Nat.{min, ℕ, _+_, _-_, _≤_}
+-- `login::read_features` meets its contract. The loop's invariant: the features from the place on bring the login to what all
+-- bring it to, and with those counted are as many as all. Assumes nothing.
+use mathlib.Core.List.{foldl}
+use Prim.Native.Nat.{_+_, _-_, _≤_}
 use native.Mathlib.Nat.{zero-add, add-zero}
-use Rattle.login.specs.declared.Feature.{Feature}
-use Rattle.login.proofs.Walk
+use Rattle.login.proofs.Walk.{Stands, stands, ends}
 use Rattle.login.specs.declared.Login.{Login}
 use Rattle.login.specs.Features.{featuresFrom}
 use Rattle.login.specs.Login.{after, headOf}
@@ -22,27 +22,16 @@ abbrev μ-loop : tie.MeasureT-loop
 μ-loop body first at₀ login₀ count₀ at login count = length body - at
 
 -- the feature that was found
-module _ (c : tie.After-feature Inv-loop μ-loop) where
-  abbrev s : List ℕ
-  s = now (c .before .before .before .before .before .before .args .body)
-
-  abbrev place : ℕ
-  place = c .before .before .before .loop .at
-
-  abbrev found : Feature
-  found = c .feature .given .0 .0
-
-  lies : (found .part .start ≡ place + 5) × (place + 5 ≤ length s)
-  lies = Walk.lies s place (c .before .before .feature-at .ensures .1) (c .feature .given .1)
-
-  turn : {next : ℕ} → next ≡ min (found .part .start + found .part .len) (length s) → featuresFrom s place ≡ found ∷ featuresFrom s next
-  turn = Walk.turn s place (c .before .before .feature-at .ensures .0) (c .feature .given .1)
+found : (c : tie.After-feature Inv-loop μ-loop) → Stands (now (c .before .before .before .before .before .before .args .body)) (c .before .before .before .loop .at) (c .feature .given .0 .0)
+found c = let l = c .before .before .feature-at .ensures in stands _ _ (l .0) (l .1) (c .feature .given .1)
 
 head-requires : tie.Need-head-requires Inv-loop μ-loop
 head-requires c κs = search needs
 
 loop-holds : tie.Need-loop-holds Inv-loop μ-loop
-loop-holds c = let s = now (c .before .before .args .body) in let first = featuresFrom s (c .before .before .args .first) in (omega arith, ap (λ (l : Login). foldl (after s) l first) (c .head .ensures), zero-add _)
+loop-holds c = let a = c .before .before .args in
+    let s = now (a .body) in
+    (omega arith, ap (λ (l : Login). foldl (after s) l (featuresFrom s (a .first))) (c .head .ensures), zero-add _)
 
 feature-at-requires : tie.Need-feature-at-requires Inv-loop μ-loop
 feature-at-requires c κs = search needs
@@ -51,27 +40,30 @@ enum-told : tie.Need-enum-told Inv-loop μ-loop
 enum-told c = search needs
 
 returns : tie.Need-returns Inv-loop μ-loop
-returns c = let t = c .before .before .before in let s = now (t .before .before .before .args .body) in let none = Walk.ends s (t .loop .at) (c .before .before .feature-at .ensures .0) (c .enum-told .given .1) in (rw none at (t .loop .inv .1), rw (none, add-zero) at (t .loop .inv .2))
+returns c = let t = c .before .before .before in
+    let s = now (t .before .before .before .args .body) in
+    let none = ends s (t .loop .at) (c .before .before .feature-at .ensures .0) (c .enum-told .given .1) in
+    (rw none at (t .loop .inv .1), rw (none, add-zero) at (t .loop .inv .2))
 
 enum-known-feature : tie.Need-enum-known-feature Inv-loop μ-loop
 enum-known-feature c = search needs
 
 after-requires : tie.Need-after-requires Inv-loop μ-loop
-after-requires c κs = omega (arith, lies (c .before))
+after-requires c κs = omega (arith, found (c .before))
 
 add-count : tie.Need-add-count Inv-loop μ-loop
-add-count c = omega (arith, lies (c .before .before), c .before .before .before .before .before .loop .inv .0)
+add-count c = omega (arith, found (c .before .before), c .before .before .before .before .before .loop .inv .0)
 
 behind-requires : tie.Need-behind-requires Inv-loop μ-loop
 behind-requires c κs = search needs
 
 loop-less : tie.Need-loop-less Inv-loop μ-loop
-loop-less c = omega (arith, lies (c .before .before .before), c .behind .ensures)
+loop-less c = omega (arith, found (c .before .before .before), c .behind .ensures)
 
 loop-again : tie.Need-loop-again Inv-loop μ-loop
 loop-again c = let r = c .before .before .before in
-    let l = lies r in
-    let t = turn r (c .behind .ensures) in
+    let l = found r in
+    let t = l .turn (c .behind .ensures) in
     let i = r .before .before .before .loop .inv in (
       omega (arith, i .0, l, c .behind .ensures),
       rw (c .before .after .ensures) (rw t at (i .1)),

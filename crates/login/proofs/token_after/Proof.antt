@@ -27,7 +27,8 @@ returns-2 c = simp (sym (c .before .before .before .has-options .ensures) ∙ no
 
 returns-3 : tie.Need-returns-3
 unfolding tokenAfter
-returns-3 c = simp (sym (c .before .before .before .before .has-options .ensures) ∙ not-false _ (c .before .before .before .if1 .left), ← c .before .before .library-in .ensures, eq-eqb _ _ (c .before .if2 .left), le-ltb _ _ (c .if3 .taken))
+returns-3 c = let h : length (now (c .before .before .before .before .before .before .args .held)) ≤ 5 = omega arith in
+    simp (sym (c .before .before .before .before .has-options .ensures) ∙ not-false _ (c .before .before .before .if1 .left), ← c .before .before .library-in .ensures, eq-eqb _ _ (c .before .if2 .left), le-ltb _ _ h)
 
 get-u32-le-requires : tie.Need-get-u32-le-requires
 get-u32-le-requires c κs = search needs
@@ -40,14 +41,20 @@ sub-if4 c = search needs
 
 returns-4 : tie.Need-returns-4
 unfolding tokenAfter
-returns-4 c = let s = now (c .before .before .before .before .before .before .before .before .args .held) in let h : length s < 5 + leAt 4 (drop 1 s) = omega (arith, c .before .get-u32-le .ensures) in simp (sym (c .before .before .before .before .before .before .has-options .ensures) ∙ not-false _ (c .before .before .before .before .before .if1 .left), ← c .before .before .before .before .library-in .ensures, eq-eqb _ _ (c .before .before .before .if2 .left), lt-ltb _ _ (c .before .before .if3 .left), lt-leb _ _ h)
+returns-4 c = let s = now (c .before .before .before .before .before .before .before .before .args .held) in
+    let g : 5 < length s = omega arith in
+    let h : length s < 5 + leAt 4 (drop 1 s) = omega (arith, c .before .get-u32-le .ensures) in
+    simp (sym (c .before .before .before .before .before .before .has-options .ensures) ∙ not-false _ (c .before .before .before .before .before .if1 .left), ← c .before .before .before .before .library-in .ensures, eq-eqb _ _ (c .before .before .before .if2 .left), lt-ltb _ _ g, lt-leb _ _ h)
 
 add-t8 : tie.Need-add-t8
 add-t8 c = search needs
 
 returns-5 : tie.Need-returns-5
 unfolding tokenAfter
-returns-5 c = let s = now (c .before .before .before .before .before .before .before .before .before .args .held) in let h : 5 + leAt 4 (drop 1 s) ≤ length s = omega (arith, c .before .before .get-u32-le .ensures) in simp (sym (c .before .before .before .before .before .before .before .has-options .ensures) ∙ not-false _ (c .before .before .before .before .before .before .if1 .left), ← c .before .before .before .before .before .library-in .ensures, eq-eqb _ _ (c .before .before .before .before .if2 .left), lt-ltb _ _ (c .before .before .before .if3 .left), le-leb _ _ h) (cc)
+returns-5 c = let s = now (c .before .before .before .before .before .before .before .before .before .args .held) in
+    let g : 5 < length s = omega arith in
+    let h : 5 + leAt 4 (drop 1 s) ≤ length s = omega (arith, c .before .before .get-u32-le .ensures) in
+    simp (sym (c .before .before .before .before .before .before .before .has-options .ensures) ∙ not-false _ (c .before .before .before .before .before .before .if1 .left), ← c .before .before .before .before .before .library-in .ensures, eq-eqb _ _ (c .before .before .before .before .if2 .left), lt-ltb _ _ g, le-leb _ _ h) (cc)
 
 pub token-after-spec : {M : Type 1} → statement M
 token-after-spec =

@@ -1,8 +1,7 @@
--- `login::write_ids` meets its contract. Assumes nothing.
-use mathlib.Core.List.{List, _∷_}
-use Prim.Native.Nat.{min, ℕ, _+_, _-_, _≤_}
-use Rattle.login.specs.declared.Feature.{Feature}
-use Rattle.login.proofs.Walk
+-- `login::write_ids` meets its contract. The loop's invariant: with the ids of the features from the place on written behind
+-- those that are, all are written, and there is room for them. Assumes nothing.
+use Prim.Native.Nat.{_+_, _-_, _≤_}
+use Rattle.login.proofs.Walk.{Stands, stands, ends}
 use lib.ListN.{length-set, length}
 use native.Mathlib.Numerals.{add-one}
 use Rattle.wire.specs.Over.{overwrite}
@@ -21,21 +20,8 @@ abbrev μ-loop : tie.MeasureT-loop
 μ-loop body first ids₀ at₀ count₀ ids at count = length body - at
 
 -- the feature that was found
-module _ (c : tie.After-feature Inv-loop μ-loop) where
-  abbrev s : List ℕ
-  s = now (c .before .before .before .before .before .before .args .body)
-
-  abbrev place : ℕ
-  place = c .before .before .before .loop .at
-
-  abbrev found : Feature
-  found = c .feature .given .0 .0
-
-  lies : (found .part .start ≡ place + 5) × (place + 5 ≤ length s)
-  lies = Walk.lies s place (c .before .before .feature-at .ensures .1) (c .feature .given .1)
-
-  turn : {next : ℕ} → next ≡ min (found .part .start + found .part .len) (length s) → featuresFrom s place ≡ found ∷ featuresFrom s next
-  turn = Walk.turn s place (c .before .before .feature-at .ensures .0) (c .feature .given .1)
+found : (c : tie.After-feature Inv-loop μ-loop) → Stands (now (c .before .before .before .before .before .before .args .body)) (c .before .before .before .loop .at) (c .feature .given .0 .0)
+found c = let l = c .before .before .feature-at .ensures in stands _ _ (l .0) (l .1) (c .feature .given .1)
 
 loop-holds : tie.Need-loop-holds Inv-loop μ-loop
 loop-holds c = (refl, omega (arith, c .before .before .pre), refl)
@@ -51,27 +37,30 @@ same-length c = search needs
 
 returns : tie.Need-returns Inv-loop μ-loop
 unfolding overwrite idsOf
-returns c = let t = c .before .before .before in let s = now (t .before .before .before .args .body) in let none = Walk.ends s (t .loop .at) (c .before .before .feature-at .ensures .0) (c .enum-told .given .1) in rw none at (t .loop .inv .2)
+returns c = let t = c .before .before .before in
+    let s = now (t .before .before .before .args .body) in
+    let none = ends s (t .loop .at) (c .before .before .feature-at .ensures .0) (c .enum-told .given .1) in
+    rw none at (t .loop .inv .2)
 
 enum-known-feature : tie.Need-enum-known-feature Inv-loop μ-loop
 enum-known-feature c = search needs
 
 slice-write-ids : tie.Need-slice-write-ids Inv-loop μ-loop
-slice-write-ids c = omega (arith, rw (turn (c .before) refl) at (c .before .before .before .before .loop .inv .1))
+slice-write-ids c = omega (arith, rw (found (c .before) .turn refl) at (c .before .before .before .before .loop .inv .1))
 
 add-count : tie.Need-add-count Inv-loop μ-loop
-add-count c = omega (arith, rw (turn (c .before) refl) at (c .before .before .before .before .loop .inv .1))
+add-count c = omega (arith, rw (found (c .before) .turn refl) at (c .before .before .before .before .loop .inv .1))
 
 behind-requires : tie.Need-behind-requires Inv-loop μ-loop
 behind-requires c κs = search needs
 
 loop-less : tie.Need-loop-less Inv-loop μ-loop
-loop-less c = omega (arith, lies (c .before .before), c .behind .ensures)
+loop-less c = omega (arith, found (c .before .before), c .behind .ensures)
 
 loop-again : tie.Need-loop-again Inv-loop μ-loop
 unfolding overwrite idsOf
 loop-again c = let r = c .before .before in
-    let t = turn r (c .behind .ensures) in
+    let t = found r .turn (c .behind .ensures) in
     let i = r .before .before .before .loop .inv in (
       simp length-set (i .0),
       simp length-set (omega (arith, rw t at (i .1))),
