@@ -11,7 +11,7 @@ use mir.Syntax.{w64}
 use mir.Val.{toZ, ofZ}
 use borrow.Author.Tests.{lt-ltb, le-ltb}
 use Rattle.login.specs.Features.{features}
-use Rattle.login.specs.Login.{answerOf as parseLogin7, idsAfter}
+use Rattle.login.specs.Login.{parseLogin7, idsAfter}
 use Rattle.login.specs.declared.Answer.{Answer}
 use Rattle.login.specs.declared.Answer.the-variants.{Read, Refused}
 use Rattle.station.specs.Answer.{refuses, numberOf, lent, filled, answerOf, slotsOf}

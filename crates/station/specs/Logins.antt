@@ -5,7 +5,7 @@ use mathlib.Core.List.{List, [], _∷_}
 use lib.ListN.{length}
 use lib.Dec.{ltb}
 use Rattle.wire.specs.declared.Part.{Part}
-use Rattle.login.specs.Login.{answerOf as parseLogin7, idsAfter, databasePart}
+use Rattle.login.specs.Login.{parseLogin7, idsAfter, databasePart}
 use Rattle.login.specs.declared.Byte.{Byte}
 use Rattle.login.specs.declared.Byte.the-variants.{Is, Absent}
 use Rattle.login.specs.declared.Text.{Text}
