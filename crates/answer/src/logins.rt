@@ -9,23 +9,18 @@ use wire::Part;
 // The most features that an input can hold, of five bytes or more each.
 const MOST_FEATURES: usize = 13107;
 
+// Ten lines; `none` stands where there is no number or no part.
 pub(crate) fn answer(input: &[u8], out: &mut [u8], at: usize) -> usize {
     let mut ids = [0u8; MOST_FEATURES];
     match login::parse_login7(input, &mut ids) {
         Answer::Read { login, ids: count } => {
             let at = fedauth_lines(login, out, at);
-            let at = table_lines(login, out, at);
-            features_line(
-                wire::part_of(
-                    &ids,
-                    Part {
-                        start: 0,
-                        len: count,
-                    },
-                ),
-                out,
-                at,
-            )
+            let at = other_lines(login, out, at);
+            let held = Part {
+                start: 0,
+                len: count,
+            };
+            features_line(wire::part_of(&ids, held), out, at)
         }
         Answer::Refused(number) => lines::refused(out, at, number),
     }
@@ -42,7 +37,7 @@ fn fedauth_lines(login: Login, out: &mut [u8], at: usize) -> usize {
 }
 
 // server START LENGTH, useragent START LENGTH, classversion N, database START LENGTH, session B
-fn table_lines(login: Login, out: &mut [u8], at: usize) -> usize {
+fn other_lines(login: Login, out: &mut [u8], at: usize) -> usize {
     let server = login.server_name;
     let agent = login.user_agent;
     let version = login.data_classification_version;

@@ -20,7 +20,7 @@ abbrev pub byteSlot : Byte → ℕ
 byteSlot (Is n) = n
 byteSlot Absent = 256
 
--- a text's part; where there is none it starts at 2^32, where no text of a login does
+-- a text's part, and where there is none a start of 2^32 and a length of 0
 abbrev pub partSlots : Text → Part
 partSlots (At p) = p
 partSlots Missing = record { start = 2 ^ 32; len = 0 }

@@ -15,7 +15,7 @@ refused-requires c κs = search needs
 
 returns : tie.Need-returns
 returns c = let a = c .before .before .before .before .before .args in
-    few (now (a .body)) (now (a .ids)) (now (a .out)) (c .before .if1 .taken) (c .refused .ok) (c .refused .ensures)
+    few (now (a .body)) (now (a .ids)) (now (a .out)) (omega arith) (c .refused .ok) (c .refused .ensures)
 
 parse-login7-requires : tie.Need-parse-login7-requires
 parse-login7-requires c κs = search needs
@@ -45,7 +45,7 @@ unfolding loginCall
 returns-2 c = let t = c .before .before in
     let m = t .before .before .before .before .before .before .before in
     let a = m .before .before .before .before .before .before .args in
-    enough (now (a .body)) (now (a .ids)) (now (a .out)) (m .before .before .if1 .left) (m .parse-login7 .ensures .1)
+    enough (now (a .body)) (now (a .ids)) (now (a .out)) (omega arith) (m .parse-login7 .ensures .1)
     (passed (now (a .out)) (t .tell-login .ok) (t .tell-login .ensures) (ap loginOutcome (sym (t .before .before .before .login .given .1) ∙ m .parse-login7 .ensures .0)))
 
 same-length-3 : tie.Need-same-length-3
@@ -55,7 +55,7 @@ returns-3 : tie.Need-returns-3
 unfolding loginCall
 returns-3 c = let m = c .before .before .before .before .before .before in
     let a = m .before .before .before .before .before .before .args in
-    enough (now (a .body)) (now (a .ids)) (now (a .out)) (m .before .before .if1 .left) (m .parse-login7 .ensures .1)
+    enough (now (a .body)) (now (a .ids)) (now (a .out)) (omega arith) (m .parse-login7 .ensures .1)
     (stopped (now (a .out)) (c .refused2 .ok) (c .refused2 .ensures) (ap loginOutcome (sym (c .before .before .number .given .1) ∙ m .parse-login7 .ensures .0)))
 
 pub station-parse-login7-spec : {M : Type 1} → statement M
