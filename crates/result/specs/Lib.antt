@@ -1,0 +1,4 @@
+pub mod Runs
+pub mod Emission
+pub mod Refusal
+pub mod Room

@@ -1,0 +1,15 @@
+-- What the room estimate answers (document 01, 'The script'): the reply's length, or the script's own refusal, 11 to 17.
+-- Rests on Emission and Refusal.
+use Prim.Native.Nat.{ℕ}
+use mathlib.Core.Bool.{cond}
+use mathlib.Core.List.{List}
+use lib.Dec.{eqb}
+use lib.ListN.{length}
+use Rattle.result.specs.declared.Measure.{Measure}
+use Rattle.result.specs.declared.Measure.the-variants.{Size, Refused}
+use Rattle.result.specs.Emission.{replyOf}
+use Rattle.result.specs.Refusal.{refusalOf}
+
+-- the exact length of a script's reply, or its refusal
+unfoldable pub measureOf : List ℕ → Measure
+measureOf s = cond (eqb (refusalOf s) 0) (Size (length (replyOf s))) (Refused (refusalOf s))
