@@ -1,3 +1,6 @@
 pub mod Cases
 pub mod Sizes
 pub mod Aheads
+pub mod Turns
+pub mod Values
+pub mod Walks

@@ -29,6 +29,14 @@ pub cap-three : (a b c : ℕ) → capped (a + capped b + c) ≡ capped (a + (b +
 unfolding capped
 cap-three a b c = omega arith
 
+pub cap-both : (a b : ℕ) → capped (capped a + capped b) ≡ capped (a + b)
+unfolding capped
+cap-both a b = omega arith
+
+pub cap-texts : (a b c : ℕ) → capped (17 + capped (capped (a + b) + c)) ≡ capped (17 + (a + b + c))
+unfolding capped
+cap-texts a b c = omega arith
+
 pub cap-small : (a : ℕ) → capped a ≤ 65536
 unfolding capped
 cap-small a = omega arith
@@ -110,6 +118,15 @@ pub bytes-cat : (ps qs : List Piece) → bytesIn (ps ++ qs) ≡ bytesIn ps ++ by
 bytes-cat [] qs = rw bytes-none
 bytes-cat (told t ∷ ps) qs = bytes-told t (ps ++ qs) ∙ rw (bytes-cat ps qs, bytes-told t ps) (sym (append-assoc (bytesOf t) (bytesIn ps) (bytesIn qs)))
 bytes-cat (classified x ∷ ps) qs = bytes-classified x (ps ++ qs) ∙ rw (bytes-cat ps qs, bytes-classified x ps) (sym (append-assoc x (bytesIn ps) (bytesIn qs)))
+
+pub size-told : (t : Token Sent) (ps : List Piece) → length (bytesIn (told t ∷ ps)) ≡ length (bytesOf t) + length (bytesIn ps)
+size-told t ps = ap length (bytes-told t ps) ∙ length-append (bytesOf t) (bytesIn ps)
+
+pub size-class : (x : List ℕ) (ps : List Piece) → length (bytesIn (classified x ∷ ps)) ≡ length x + length (bytesIn ps)
+size-class x ps = ap length (bytes-classified x ps) ∙ length-append x (bytesIn ps)
+
+pub size-nothing : length (bytesIn []) ≡ 0
+size-nothing = ap length bytes-none
 
 pub size-cat : (ps qs : List Piece) → length (bytesIn (ps ++ qs)) ≡ length (bytesIn ps) + length (bytesIn qs)
 size-cat ps qs = ap length (bytes-cat ps qs) ∙ length-append (bytesIn ps) (bytesIn qs)

@@ -6,13 +6,17 @@ use mathlib.Core.Bool.{cond}
 use mathlib.Core.List.{List, [], _∷_}
 use lib.Dec.{eqb}
 use lib.ListN.{length, drop}
+use mathlib.Core.Option.{Option, none, some}
+use Rattle.wire.specs.Part.{bytesOf as Part·bytesOf}
 use Rattle.token.specs.Tokens.{bytesOf, joined}
 use Rattle.script.specs.Records.{records}
 use Rattle.result.specs.declared.Run.{Run}
 use Rattle.result.specs.declared.Turn.{Turn}
 use Rattle.result.specs.declared.Sized.{Sized}
+use Rattle.result.specs.declared.ErrorAt.{ErrorAt}
+use Rattle.result.specs.declared.ErrorAt.the-variants.{At, Missing}
 use Rattle.result.specs.Runs.{ahead, behind}
-use Rattle.result.specs.Emission.{Piece, columnToken, piecesOf, emitFrom, bytesIn}
+use Rattle.result.specs.Emission.{Piece, columnToken, emitFrom, bytesIn}
 use Rattle.result.specs.Refusal.{tokenFault, faultIn}
 
 -- a size as far as it matters: over 65,535 bytes are too many, however many more
@@ -60,13 +64,22 @@ pub record GoesOn (s : List ℕ) (a b : ℕ) : Type 0 where
   pub lies : b ≤ length s
   pub same : (rows : ℕ) → emitFrom rows (records (drop a s)) ≡ emitFrom rows (records (drop b s))
 
--- a record's faults and size, with what stands behind it at the place next; and where the walk goes on
-pub record Turned (s : List ℕ) (k : ℕ) (p : List ℕ) (next : ℕ) (r : Turn) : Type 0 where
-  pub fault : r .fault ≡ faultIn (piecesOf 0 k p (records (drop next s)))
-  pub size : r .size ≡ capped (length (bytesIn (piecesOf 0 k p (records (drop next s)))))
+-- the faults and the size of what is emitted at a turn of the walk, and where the walk goes on in the place of next
+pub record Turned (ps : List Piece) (s : List ℕ) (next : ℕ) (r : Turn) : Type 0 where
+  pub fault : r .fault ≡ faultIn ps
+  pub size : r .size ≡ capped (length (bytesIn ps))
   pub goes : GoesOn s next (r .next)
 
--- faults and size of pieces; the size where there is no fault
+-- a turn behind the DONE of the set before
+unfoldable pub behindDone : Turn → Turn
+behindDone t = record { fault = t .fault; size = capped (13 + t .size); next = t .next }
+
+-- the faults of pieces, and where there is none their size behind bytes before
 pub record Sizes (ps : List Piece) (before : ℕ) (r : Sized) : Type 0 where
   pub fault : r .fault ≡ faultIn ps
   pub size : r .fault ≡ 0 → r .size ≡ capped (before + length (bytesIn ps))
+
+-- the error that was found, as the payload of its record
+abbrev pub errorFound : List ℕ → ErrorAt → Option (List ℕ)
+errorFound s (At part) = some (Part·bytesOf s part)
+errorFound s Missing = none

@@ -4,16 +4,20 @@
 use script::Found;
 use wire::Part;
 ghost use mathlib.Core.Path.{_≡_};
-ghost use mathlib.Core.Bool.{cond};
+ghost use mathlib.Core.Bool.{cond, _||_};
 ghost use Prim.Native.Nat.{_+_, _^_, _≤_, _<_};
 ghost use lib.Dec.{eqb};
 ghost use lib.ListN.{length, take, drop};
 ghost use Rattle.wire.specs.Le.{leAt};
 ghost use Rattle.token.specs.Types.{dataTypeOf, typeCode, collationSize};
 ghost use Rattle.token.specs.Tokens.{bytesOf};
-ghost use Rattle.result.specs.Emission.{columnToken};
+ghost use mathlib.Core.List.{[], _∷_};
+ghost use Rattle.script.specs.Records.{records};
+ghost use Rattle.token.specs.Tokens.{cell, long};
+ghost use Rattle.result.specs.Runs.{ahead};
+ghost use Rattle.result.specs.Emission.{told, columnToken, infoToken, cellOf, setPieces, piecesOf, emitFrom, errorIn};
 ghost use Rattle.result.specs.Refusal.{tokenFault, longName};
-ghost use Rattle.result.specs.Inner.{capped, recordSize, recordFault, longerRun, Ahead};
+ghost use Rattle.result.specs.Inner.{capped, recordSize, recordFault, longerRun, Ahead, Turned, Sizes, errorFound, behindDone};
 
 // What a builder answers: the bytes written, or the refusal's number.
 pub enum Built {
@@ -108,6 +112,16 @@ fn is_long_name(name: &[u8]) -> bool
     255 < name.len() / 2
 }
 
+// The fault of an info's names, or none.
+fn names_fault(server: &[u8], procedure: &[u8]) -> u8
+    ensures { λ r. ⌜ r ≡ cond (longName (now (server .entry)) || longName (now (procedure .entry))) 16 0 ⌝ }
+{
+    if is_long_name(server) | is_long_name(procedure) {
+        return LONG_NAME;
+    }
+    NONE
+}
+
 // A column's fault, or none.
 fn column_fault(p: &[u8]) -> u8
     ensures { λ r. ⌜ r ≡ tokenFault (columnToken (now (p .entry))) ⌝ }
@@ -171,5 +185,154 @@ fn longer(run: Run, kind: u16, p: &[u8], next: usize) -> Run
         size: grown(run.size, record_size(kind, p)),
         fault: first_fault(run.fault, record_fault(kind, p)),
         next,
+    }
+}
+
+// The error of a set, or none.
+enum ErrorAt {
+    At(Part),
+    Missing,
+}
+
+// The error of a kind in the set that goes on at a place, behind its columns.
+fn error_in(s: &[u8], at: usize, kind: u16) -> ErrorAt
+    requires { ⌜ at ≤ length (now s) ⌝ }
+    ensures { λ r. ⌜ errorFound (now (s .entry)) r ≡ errorIn kind (records (drop at (now (s .entry)))) ⌝ }
+{
+    let mut place = at;
+    loop {
+        match script::record_at(s, place) {
+            Found::Record { kind: k, start, len } => {
+                if k == kind {
+                    return ErrorAt::At(Part { start, len });
+                }
+                if !((k == script::COLUMN) | (k == script::LEADING_ERROR)) {
+                    return ErrorAt::Missing;
+                }
+                place = start + len;
+            }
+            Found::Cut => {
+                return ErrorAt::Missing;
+            }
+            Found::End => {
+                return ErrorAt::Missing;
+            }
+        }
+    }
+}
+
+// What an error and its DONE add to a reply.
+fn error_size(p: &[u8]) -> usize
+    ensures { λ r. ⌜ r ≡ capped (30 + length (drop 5 (now (p .entry)))) ⌝ }
+{
+    grown(30, script::behind(p, 5).len())
+}
+
+// The beginning of a set whose classification has len bytes: COLMETADATA, columns, classification.
+fn set_turn(s: &[u8], class: &[u8], next: usize) -> Turn
+    requires { ⌜ next ≤ length (now s) ⌝ }
+    ensures { λ r. ⌜ Turned (setPieces (now (class .entry)) (records (drop next (now (s .entry))))) (now (s .entry)) next r ⌝ }
+{
+    let run = run_at(s, next, script::COLUMN);
+    Turn {
+        fault: run.fault,
+        size: grown(grown(3, class.len()), run.size),
+        next: run.next,
+    }
+}
+
+// An info.
+fn info_turn(s: &[u8], p: &[u8], next: usize) -> Turn
+    requires { ⌜ next ≤ length (now s) ⌝ }
+    ensures { λ r. ⌜ Turned (told (infoToken (now (p .entry))) ∷ []) (now (s .entry)) next r ⌝ }
+{
+    let server = script::info_server(p);
+    let procedure = script::info_procedure(p);
+    let texts = grown(grown(script::info_message(p).len(), server.len()), procedure.len());
+    let fault = names_fault(server, procedure);
+    Turn { fault, size: grown(17, texts), next }
+}
+
+// A cell in chunks.
+fn chunked_turn(s: &[u8], next: usize) -> Turn
+    requires { ⌜ next ≤ length (now s) ⌝ }
+    ensures { λ r. ⌜ Turned (told (cell (long (ahead 6 (records (drop next (now (s .entry))))))) ∷ []) (now (s .entry)) next r ⌝ }
+{
+    let run = run_at(s, next, script::CHUNK);
+    Turn {
+        fault: run.fault,
+        size: grown(12, run.size),
+        next: run.next,
+    }
+}
+
+// A cell, with its chunks where it has them.
+fn cell_turn(s: &[u8], p: &[u8], next: usize) -> Turn
+    requires { ⌜ next ≤ length (now s) ⌝ }
+    ensures { λ r. ⌜ Turned (told (cell (cellOf (now (p .entry)) (ahead 6 (records (drop next (now (s .entry))))))) ∷ []) (now (s .entry)) next r ⌝ }
+{
+    let value = wire::get_u8(p, 0);
+    if (1 <= value) & (value <= 4) {
+        let size = 1 + script::number_width(value) as usize;
+        return Turn { fault: NONE, size, next };
+    }
+    if value == 5 {
+        let size = grown(2, script::behind(p, 1).len());
+        return Turn { fault: NONE, size, next };
+    }
+    if (value == 6) | (value == 8) | (value == 9) {
+        return chunked_turn(s, next);
+    }
+    let size = if value == 7 { 8 } else { 1 };
+    Turn { fault: NONE, size, next }
+}
+
+// What a record behind the first set's emits.
+fn turn_at(s: &[u8], kind: u16, p: &[u8], next: usize) -> Turn
+    requires { ⌜ next ≤ length (now s) ⌝ }
+    ensures { λ r. ⌜ Turned (piecesOf 0 kind (now (p .entry)) (records (drop next (now (s .entry))))) (now (s .entry)) next r ⌝ }
+{
+    match kind {
+        script::SET => ended_turn(set_turn(s, p, next)),
+        script::INFO => info_turn(s, p, next),
+        script::TRAILING_INFO => info_turn(s, p, next),
+        script::ROW => Turn { fault: NONE, size: 1, next },
+        script::CELL => cell_turn(s, p, next),
+        _ => Turn { fault: NONE, size: 0, next },
+    }
+}
+
+// A turn behind the DONE of the set before.
+fn ended_turn(t: Turn) -> Turn
+    ensures { λ r. ⌜ r ≡ behindDone t ⌝ }
+{
+    Turn { fault: t.fault, size: grown(13, t.size), next: t.next }
+}
+
+// Faults and size of what the records from a place on emit, behind bytes before.
+fn sizes_from(s: &[u8], at: usize, before: usize) -> Sized
+    requires { ⌜ at ≤ length (now s) ⌝ }
+    ensures { λ r. ⌜ Sizes (emitFrom 0 (records (drop at (now (s .entry))))) before r ⌝ }
+{
+    let mut place = at;
+    let mut size = before;
+    loop {
+        match script::record_at(s, place) {
+            Found::Record { kind, start, len } => {
+                let next = start + len;
+                let turn = turn_at(s, kind, &s[start..next], next);
+                if turn.fault != NONE {
+                    return Sized { fault: turn.fault, size };
+                }
+                size = grown(size, turn.size);
+                place = turn.next;
+            }
+            Found::Cut => {
+                return Sized { fault: NONE, size: grown(size, 13) };
+            }
+            Found::End => {
+                return Sized { fault: NONE, size: grown(size, 13) };
+            }
+        }
     }
 }
