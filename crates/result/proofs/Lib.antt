@@ -4,3 +4,4 @@ pub mod Aheads
 pub mod Turns
 pub mod Values
 pub mod Walks
+pub mod Replies

@@ -11,11 +11,12 @@ ghost use lib.ListN.{length, take, drop};
 ghost use Rattle.wire.specs.Le.{leAt};
 ghost use Rattle.token.specs.Types.{dataTypeOf, typeCode, collationSize};
 ghost use Rattle.token.specs.Tokens.{bytesOf};
-ghost use mathlib.Core.List.{[], _∷_};
+ghost use mathlib.Core.List.{[], _∷_, _++_};
 ghost use Rattle.script.specs.Records.{records};
 ghost use Rattle.token.specs.Tokens.{cell, long};
 ghost use Rattle.result.specs.Runs.{ahead};
-ghost use Rattle.result.specs.Emission.{told, columnToken, infoToken, cellOf, setPieces, piecesOf, emitFrom, errorIn};
+ghost use Rattle.result.specs.Emission.{told, columnToken, infoToken, cellOf, setPieces, piecesOf, emitFrom, errorIn, errorPieces, leadingStatus, setsOf, pieces, bytesIn};
+ghost use Rattle.result.specs.Room.{measureOf};
 ghost use Rattle.result.specs.Refusal.{tokenFault, longName};
 ghost use Rattle.result.specs.Inner.{capped, recordSize, recordFault, longerRun, Ahead, Turned, Sizes, errorFound, behindDone};
 
@@ -335,4 +336,76 @@ fn sizes_from(s: &[u8], at: usize, before: usize) -> Sized
             }
         }
     }
+}
+
+// Faults and size of the sets of a script whose first set has the classification class and goes on at next, behind bytes before.
+fn sets_size(s: &[u8], class: &[u8], next: usize, before: usize) -> Sized
+    requires { ⌜ next ≤ length (now s) ⌝ }
+    ensures { λ r. ⌜ Sizes (setPieces (now (class .entry)) (records (drop next (now (s .entry)))) ++ emitFrom 0 (records (drop next (now (s .entry))))) before r ⌝ }
+{
+    let turn = set_turn(s, class, next);
+    if turn.fault != NONE {
+        return Sized { fault: turn.fault, size: before };
+    }
+    let at = turn.next;
+    sizes_from(s, at, grown(before, turn.size))
+}
+
+// What the error of a set, where it has one, and its DONE add to a reply.
+fn lead_size(s: &[u8], error: ErrorAt) -> usize
+    ensures { λ r. ⌜ r ≡ capped (length (bytesIn (errorPieces leadingStatus (errorFound (now (s .entry)) error)))) ⌝ }
+{
+    match error {
+        ErrorAt::At(part) => error_size(wire::part_of(s, part)),
+        ErrorAt::Missing => 0,
+    }
+}
+
+// Faults and size of a reply whose first set has the classification class and goes on at next.
+fn reply_size(s: &[u8], class: &[u8], next: usize) -> Sized
+    requires { ⌜ next ≤ length (now s) ⌝ }
+    ensures { λ r. ⌜ Sizes (setsOf (now (class .entry)) (records (drop next (now (s .entry))))) 8 r ⌝ }
+{
+    match error_in(s, next, script::TERMINAL_ERROR) {
+        ErrorAt::At(part) => Sized {
+            fault: NONE,
+            size: grown(8, error_size(wire::part_of(s, part))),
+        },
+        ErrorAt::Missing => {
+            let lead = lead_size(s, error_in(s, next, script::LEADING_ERROR));
+            sets_size(s, class, next, grown(8, lead))
+        }
+    }
+}
+
+// Faults and size of a script's reply.
+fn emitted_size(s: &[u8]) -> Sized
+    ensures { λ r. ⌜ Sizes (pieces (now (s .entry))) 8 r ⌝ }
+{
+    match script::record_at(s, 0) {
+        Found::Record { kind: _, start, len } => {
+            let next = start + len;
+            reply_size(s, &s[start..next], next)
+        }
+        Found::Cut => Sized { fault: NONE, size: 8 },
+        Found::End => Sized { fault: NONE, size: 8 },
+    }
+}
+
+// The exact length of a script's reply, or its refusal, 11 to 17: two passes over its records.
+pub fn reply_length(s: &[u8]) -> Measure
+    ensures { λ r. ⌜ r ≡ measureOf (now (s .entry)) ⌝ }
+{
+    let refused = script::verdict(s);
+    if refused != NONE {
+        return Measure::Refused(refused);
+    }
+    let sized = emitted_size(s);
+    if sized.fault != NONE {
+        return Measure::Refused(sized.fault);
+    }
+    if 65535 < sized.size {
+        return Measure::Refused(TOO_LONG);
+    }
+    Measure::Size(sized.size)
 }

@@ -1,7 +1,8 @@
-use mathlib.Core.Path.{_≡_, refl, sym, ap, _∙_}
+-- `result::cell_turn` meets its contract. Assumes nothing.
+use mathlib.Core.Path.{refl, sym, ap, _∙_}
 use native.Mathlib.Omega.{arith}
 use denote.Ref.{now}
-use Prim.Native.Nat.{ℕ, _+_}
+use Prim.Native.Nat.{_+_}
 use lib.ListN.{length, drop}
 use Rattle.wire.specs.Le.{leAt}
 use Rattle.script.specs.Records.{records}
@@ -14,31 +15,19 @@ use Rattle.result.proofs.Sizes.{cap-of, cap-same, size-integer, size-bo
 use borrow.Author.Needs.{needs}
 use Rattle.result.proofs.cell_turn.Statement.{statement}
 use Rattle.result.proofs.cell_turn.Tie as tie
-use Rattle.result.proofs.cell_turn.Reads as reads
-use Rattle.result.proofs.cell_turn.Lts as lts
-use Rattle.result.proofs.chunked_turn.Reads as chunked-turn-reads
-use Rattle.result.proofs.grown.Reads as grown-reads
-use Rattle.script.proofs.behind.Reads as behind-reads
-use Rattle.script.proofs.number_width.Reads as number-width-reads
-use Rattle.wire.proofs.get_u8.Reads as get-u8-reads
 
--- src/lib.rt:265:9
 get-u8-requires : tie.Need-get-u8-requires
 get-u8-requires c κs = search needs
 
--- src/lib.rt:267:24
 number-width-requires : tie.Need-number-width-requires
 number-width-requires c κs = search needs
 
--- src/lib.rt:267:24
 cast-size : tie.Need-cast-size
 cast-size c = search needs
 
--- src/lib.rt:267:20
 add-size : tie.Need-add-size
 add-size c = search needs
 
--- src/lib.rt:268:9
 returns : tie.Need-returns
 returns c = let a = c .before .before .before .before .before .args in
     let s = now (a .s) in
@@ -46,15 +35,12 @@ returns c = let a = c .before .before .before .before .before .args in
     rw (cell-number (now (c .before .before .before .before .before .args .p)) (ahead 6 (records (drop (c .before .before .before .before .before .args .next) (now (c .before .before .before .before .before .args .s))))) (c .before .before .get-u8 .result) (c .before .before .get-u8 .ensures) (c .before .if1 .taken))
     (turned-one (cell (integer (numberWidth (c .before .before .get-u8 .result)) (leAt (numberWidth (c .before .before .get-u8 .result)) (drop 1 p)))) s (a .next) _ refl (sym (cap-of (1 + c .number-width .result) (omega arith)) ∙ cap-same (omega (arith, c .number-width .ensures, size-integer (numberWidth (c .before .before .get-u8 .result)) (leAt (numberWidth (c .before .before .get-u8 .result)) (drop 1 p))))) (goes-here s (a .next) (c .before .before .before .before .before .pre)))
 
--- src/lib.rt:271:29
 behind-requires : tie.Need-behind-requires
 behind-requires c κs = search needs
 
--- src/lib.rt:271:13
 grown-requires : tie.Need-grown-requires
 grown-requires c κs = search needs
 
--- src/lib.rt:272:9
 returns-2 : tie.Need-returns-2
 returns-2 c = let a = c .before .before .before .before .before .before .before .args in
     let s = now (a .s) in
@@ -62,15 +48,12 @@ returns-2 c = let a = c .before .before .before .before .before .before .before 
     rw (cell-text (now (c .before .before .before .before .before .before .before .args .p)) (ahead 6 (records (drop (c .before .before .before .before .before .before .before .args .next) (now (c .before .before .before .before .before .before .before .args .s))))) (c .before .before .before .before .get-u8 .result) (c .before .before .before .before .get-u8 .ensures) (c .before .before .before .if1 .left) (c .before .before .if2 .taken))
     (turned-one (cell (bounded (drop 1 p))) s (a .next) _ refl (c .grown .ensures ∙ cap-same (omega (arith, ap length (c .before .behind .ensures), size-bounded (drop 1 p)))) (goes-here s (a .next) (c .before .before .before .before .before .before .before .pre)))
 
--- src/lib.rt:275:9
 chunked-turn-requires : tie.Need-chunked-turn-requires
 chunked-turn-requires c κs = search needs
 
--- src/lib.rt:275:9
 returns-3 : tie.Need-returns-3
 returns-3 c = rw (cell-chunks (now (c .before .before .before .before .before .before .before .args .p)) (ahead 6 (records (drop (c .before .before .before .before .before .before .before .args .next) (now (c .before .before .before .before .before .before .before .args .s))))) (c .before .before .before .before .get-u8 .result) (c .before .before .before .before .get-u8 .ensures) (c .before .before .before .if1 .left) (c .before .before .if2 .left) (c .before .if3 .taken)) (c .chunked-turn .ensures)
 
--- src/lib.rt:261:1
 returns-4 : tie.Need-returns-4
 returns-4 c = let a = c .before .before .before .before .before .before .before .args in
     let s = now (a .s) in
@@ -78,7 +61,6 @@ returns-4 c = let a = c .before .before .before .before .before .before .before 
     rw (cell-no-long (now (c .before .before .before .before .before .before .before .args .p)) (ahead 6 (records (drop (c .before .before .before .before .before .before .before .args .next) (now (c .before .before .before .before .before .before .before .args .s))))) (c .before .before .before .before .get-u8 .result) (c .before .before .before .before .get-u8 .ensures) (c .before .before .before .if1 .left) (c .before .before .if2 .left) (c .before .if3 .left) (c .if4 .taken))
     (turned-one (cell noLong) s (a .next) _ refl (sym (cap-of 8 (omega arith)) ∙ cap-same (sym size-no-long)) (goes-here s (a .next) (c .before .before .before .before .before .before .before .pre)))
 
--- src/lib.rt:261:1
 returns-5 : tie.Need-returns-5
 returns-5 c = let a = c .before .before .before .before .before .before .before .args in
     let s = now (a .s) in

@@ -1,22 +1,16 @@
+-- `result::chunked_turn` meets its contract. Assumes nothing.
 use denote.Ref.{now}
 use Rattle.result.proofs.Turns.{turned-chunks}
 use borrow.Author.Needs.{needs}
 use Rattle.result.proofs.chunked_turn.Statement.{statement}
 use Rattle.result.proofs.chunked_turn.Tie as tie
-use Rattle.result.proofs.chunked_turn.Reads as reads
-use Rattle.result.proofs.chunked_turn.Lts as lts
-use Rattle.result.proofs.grown.Reads as grown-reads
-use Rattle.result.proofs.run_at.Reads as run-at-reads
 
--- src/lib.rt:252:9
 run-at-requires : tie.Need-run-at-requires
 run-at-requires c κs = search needs
 
--- src/lib.rt:255:15
 grown-requires : tie.Need-grown-requires
 grown-requires c κs = search needs
 
--- src/lib.rt:248:1
 returns : tie.Need-returns
 returns c = let a = c .before .before .before .args in
     rw (c .grown .ensures) (turned-chunks (now (a .s)) (a .next) (c .before .run-at .result) (c .before .run-at .ensures))

@@ -1,3 +1,4 @@
+-- `result::error_in` meets its contract. Assumes nothing.
 use Prim.Native.Nat.{ℕ, _+_, _-_, _≤_}
 use borrow.Author.Tests.{not-true, not-false}
 use mathlib.Core.List.{List}
@@ -6,17 +7,13 @@ use Rattle.script.specs.Records.{recordAt, records}
 use Rattle.script.proofs.Walk
 use Rattle.result.specs.Emission.{errorIn}
 use Rattle.result.proofs.Walks.{error-here, error-none, error-later, error-cut, error-end}
-use Prim.Native.Nat.{ℕ, suc, _+_, _-_, _*_, _≤_, _<_}
-use mathlib.Core.Path.{_≡_, refl, sym, ap, _∙_}
-use lib.ListN.{length, take, drop, getD}
+use mathlib.Core.Path.{_≡_, refl, sym, _∙_}
+use lib.ListN.{length, drop}
 use native.Mathlib.Omega.{arith}
 use borrow.Author.Needs.{needs}
 use denote.Ref.{now}
 use Rattle.result.proofs.error_in.Statement.{statement}
 use Rattle.result.proofs.error_in.Tie as tie
-use Rattle.result.proofs.error_in.Reads as reads
-use Rattle.result.proofs.error_in.Lts as lts
-use Rattle.script.proofs.record_at.Reads as record-at-reads
 
 abbrev Inv-loop : tie.InvT-loop
 Inv-loop s at kind place₀ place = (place ≤ length s) × (errorIn kind (records (drop place s)) ≡ errorIn kind (records (drop at s)))
@@ -44,54 +41,42 @@ module _ (c : tie.After-k Inv-loop μ-loop) where
   lies : (start ≡ here + 6) × (start + size ≤ length s)
   lies = Walk.lies s here found
 
--- src/lib.rt:193:5
 loop-holds : tie.Need-loop-holds Inv-loop μ-loop
 loop-holds c = (c .before .pre, refl)
 
--- src/lib.rt:194:15
 record-at-requires : tie.Need-record-at-requires Inv-loop μ-loop
 record-at-requires c κs = search needs
 
--- src/lib.rt:195:35
 enum-known-k : tie.Need-enum-known-k Inv-loop μ-loop
 enum-known-k c = search needs
 
--- src/lib.rt:197:21
 returns : tie.Need-returns Inv-loop μ-loop
 returns c = let r = c .before .before in
     sym (error-here (s r) (here r) _ (start r) (size r) (found r) (c .if1 .taken)) ∙ c .before .before .before .before .before .loop .inv .1
 
--- src/lib.rt:200:21
 returns-2 : tie.Need-returns-2 Inv-loop μ-loop
 returns-2 c = let r = c .before .before .before in
     sym (error-none (s r) (here r) _ (start r) (size r) (found r) (c .before .if1 .left) (not-true _ (c .if2 .taken))) ∙ c .before .before .before .before .before .before .loop .inv .1
 
--- src/lib.rt:202:25
 add-place : tie.Need-add-place Inv-loop μ-loop
 add-place c = omega (arith, lies (c .before .before .before))
 
--- src/lib.rt:193:5
 loop-less : tie.Need-loop-less Inv-loop μ-loop
 loop-less c = omega (arith, lies (c .before .before .before))
 
--- src/lib.rt:193:5
 loop-again : tie.Need-loop-again Inv-loop μ-loop
 loop-again c = let r = c .before .before .before in
     (lies r .1, sym (error-later (s r) (here r) _ (start r) (size r) (found r) (c .before .if1 .left) (not-false _ (c .if2 .left))) ∙ c .before .before .before .before .before .before .loop .inv .1)
 
--- src/lib.rt:205:17
 enum-told : tie.Need-enum-told Inv-loop μ-loop
 enum-told c = search needs
 
--- src/lib.rt:205:17
 returns-3 : tie.Need-returns-3 Inv-loop μ-loop
 returns-3 c = sym (error-cut _ _ _ (sym (c .before .before .record-at .ensures) ∙ c .enum-told .given .1)) ∙ c .before .before .before .loop .inv .1
 
--- src/lib.rt:208:17
 enum-told-2 : tie.Need-enum-told-2 Inv-loop μ-loop
 enum-told-2 c = search needs
 
--- src/lib.rt:208:17
 returns-4 : tie.Need-returns-4 Inv-loop μ-loop
 returns-4 c = sym (error-end _ _ _ (sym (c .before .before .record-at .ensures) ∙ c .enum-told2 .given .1)) ∙ c .before .before .before .loop .inv .1
 

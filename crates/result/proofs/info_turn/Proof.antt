@@ -1,4 +1,5 @@
-use mathlib.Core.Path.{_≡_, refl, sym, ap, _∙_}
+-- `result::info_turn` meets its contract. Assumes nothing.
+use mathlib.Core.Path.{ap, _∙_}
 use native.Mathlib.Omega.{arith}
 use denote.Ref.{now}
 use lib.ListN.{length, drop}
@@ -10,43 +11,28 @@ use Rattle.result.proofs.Sizes.{cap-texts, cap-same, size-message}
 use borrow.Author.Needs.{needs}
 use Rattle.result.proofs.info_turn.Statement.{statement}
 use Rattle.result.proofs.info_turn.Tie as tie
-use Rattle.result.proofs.info_turn.Reads as reads
-use Rattle.result.proofs.info_turn.Lts as lts
-use Rattle.result.proofs.grown.Reads as grown-reads
-use Rattle.result.proofs.names_fault.Reads as names-fault-reads
-use Rattle.script.proofs.info_message.Reads as info-message-reads
-use Rattle.script.proofs.info_procedure.Reads as info-procedure-reads
-use Rattle.script.proofs.info_server.Reads as info-server-reads
 
--- src/lib.rt:249:9
 info-server-requires : tie.Need-info-server-requires
 info-server-requires c κs = search needs
 
--- src/lib.rt:250:9
 info-procedure-requires : tie.Need-info-procedure-requires
 info-procedure-requires c κs = search needs
 
--- src/lib.rt:251:29
 info-message-requires : tie.Need-info-message-requires
 info-message-requires c κs = search needs
 
--- src/lib.rt:251:23
 grown-requires : tie.Need-grown-requires
 grown-requires c κs = search needs
 
--- src/lib.rt:251:9
 grown-requires-2 : tie.Need-grown-requires-2
 grown-requires-2 c κs = search needs
 
--- src/lib.rt:252:9
 names-fault-requires : tie.Need-names-fault-requires
 names-fault-requires c κs = search needs
 
--- src/lib.rt:253:25
 grown-requires-3 : tie.Need-grown-requires-3
 grown-requires-3 c κs = search needs
 
--- src/lib.rt:245:1
 returns : tie.Need-returns
 returns c = let a = c .before .before .before .before .before .before .before .before .before .args in
     let s = now (a .s) in

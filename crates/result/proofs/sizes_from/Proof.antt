@@ -1,3 +1,4 @@
+-- `result::sizes_from` meets its contract. Assumes nothing.
 use Prim.Native.Nat.{ℕ, _+_, _-_, _≤_}
 use mathlib.Core.List.{List}
 use Rattle.script.specs.declared.Found.the-variants.{Record}
@@ -7,19 +8,13 @@ use Rattle.result.specs.Emission.{bytesIn}
 use Rattle.result.specs.Refusal.{faultIn}
 use Rattle.result.specs.Inner.{capped}
 use Rattle.result.proofs.Walks.{left, left-bad, left-fault, left-size, left-cut, left-end, end-fault, end-size}
-use Prim.Native.Nat.{ℕ, suc, _+_, _-_, _*_, _≤_, _<_}
-use mathlib.Core.Path.{_≡_, refl, sym, ap, _∙_}
-use lib.ListN.{length, take, drop, getD}
+use mathlib.Core.Path.{_≡_, refl, sym, _∙_}
+use lib.ListN.{length}
 use native.Mathlib.Omega.{arith}
 use borrow.Author.Needs.{needs}
 use denote.Ref.{now}
 use Rattle.result.proofs.sizes_from.Statement.{statement}
 use Rattle.result.proofs.sizes_from.Tie as tie
-use Rattle.result.proofs.sizes_from.Reads as reads
-use Rattle.result.proofs.sizes_from.Lts as lts
-use Rattle.result.proofs.grown.Reads as grown-reads
-use Rattle.result.proofs.turn_at.Reads as turn-at-reads
-use Rattle.script.proofs.record_at.Reads as record-at-reads
 
 abbrev Inv-loop : tie.InvT-loop
 Inv-loop s at before place₀ size₀ place size = (place ≤ length s) × (faultIn (left s place) ≡ faultIn (left s at)) × (capped (size + length (bytesIn (left s place))) ≡ capped (before + length (bytesIn (left s at))))
@@ -47,54 +42,42 @@ module _ (c : tie.After-kind Inv-loop μ-loop) where
   lies : (start ≡ here + 6) × (start + size ≤ length s)
   lies = Walk.lies s here found
 
--- src/lib.rt:310:5
 loop-holds : tie.Need-loop-holds Inv-loop μ-loop
 loop-holds c = (c .before .pre, refl, refl)
 
--- src/lib.rt:311:15
 record-at-requires : tie.Need-record-at-requires Inv-loop μ-loop
 record-at-requires c κs = search needs
 
--- src/lib.rt:312:29
 enum-known-kind : tie.Need-enum-known-kind Inv-loop μ-loop
 enum-known-kind c = search needs
 
--- src/lib.rt:313:28
 add-next : tie.Need-add-next Inv-loop μ-loop
 add-next c = omega (arith, lies (c .before))
 
--- src/lib.rt:314:45
 sub-turn-at : tie.Need-sub-turn-at Inv-loop μ-loop
 sub-turn-at c = search needs
 
--- src/lib.rt:314:45
 part-turn-at-start : tie.Need-part-turn-at-start Inv-loop μ-loop
 part-turn-at-start c = omega (arith, lies (c .before))
 
--- src/lib.rt:314:45
 part-turn-at-end : tie.Need-part-turn-at-end Inv-loop μ-loop
 part-turn-at-end c = omega (arith, lies (c .before))
 
--- src/lib.rt:314:21
 turn-at-requires : tie.Need-turn-at-requires Inv-loop μ-loop
 turn-at-requires c κs = lies (c .before .before) .1
 
--- src/lib.rt:316:21
 returns : tie.Need-returns Inv-loop μ-loop
 returns c = let r = c .before .before .before .before .before in
     let t = c .before .before .turn-at in
     let e = left-bad (s r) (here r) _ (start r) (size r) (t .result) (found r) (t .ensures) (c .if1 .taken) in
     record { fault = sym e ∙ c .before .before .before .before .before .before .before .before .loop .inv .1; size = λ z. absurd (c .if1 .taken z) }
 
--- src/lib.rt:318:17
 grown-requires : tie.Need-grown-requires Inv-loop μ-loop
 grown-requires c κs = search needs
 
--- src/lib.rt:310:5
 loop-less : tie.Need-loop-less Inv-loop μ-loop
 loop-less c = let r = c .before .before .before .before .before .before in omega (arith, lies r, c .before .before .before .turn-at .ensures .goes .from, c .before .before .before .turn-at .ensures .goes .lies)
 
--- src/lib.rt:310:5
 loop-again : tie.Need-loop-again Inv-loop μ-loop
 loop-again c = let r = c .before .before .before .before .before .before in
     let t = c .before .before .before .turn-at in
@@ -105,29 +88,23 @@ loop-again c = let r = c .before .before .before .before .before .before in
       rw (c .grown .ensures) (left-size (s r) (here r) _ (start r) (size r) (t .result) (found r) (t .ensures) (c .before .before .before .before .before .before .before .before .before .loop .size) ∙ old .2),
     )
 
--- src/lib.rt:322:51
 enum-told : tie.Need-enum-told Inv-loop μ-loop
 enum-told c = search needs
 
--- src/lib.rt:322:51
 grown-requires-2 : tie.Need-grown-requires-2 Inv-loop μ-loop
 grown-requires-2 c κs = search needs
 
--- src/lib.rt:322:17
 returns-2 : tie.Need-returns-2 Inv-loop μ-loop
 returns-2 c = let l = c .before .before .before .before .loop in
     let e = left-cut _ (l .place) (sym (c .before .before .before .record-at .ensures) ∙ c .before .enum-told .given .1) in
     record { fault = end-fault _ (l .place) e ∙ l .inv .1; size = λ z. c .grown2 .ensures ∙ end-size _ (l .place) e (l .size) ∙ l .inv .2 }
 
--- src/lib.rt:325:51
 enum-told-2 : tie.Need-enum-told-2 Inv-loop μ-loop
 enum-told-2 c = search needs
 
--- src/lib.rt:325:51
 grown-requires-3 : tie.Need-grown-requires-3 Inv-loop μ-loop
 grown-requires-3 c κs = search needs
 
--- src/lib.rt:325:17
 returns-3 : tie.Need-returns-3 Inv-loop μ-loop
 returns-3 c = let l = c .before .before .before .before .loop in
     let e = left-end _ (l .place) (sym (c .before .before .before .record-at .ensures) ∙ c .before .enum-told2 .given .1) in

@@ -1,4 +1,5 @@
-use mathlib.Core.Path.{_≡_, refl, sym, ap, _∙_}
+-- `result::turn_at` meets its contract. Assumes nothing.
+use mathlib.Core.Path.{refl, sym, _∙_}
 use native.Mathlib.Omega.{arith}
 use denote.Ref.{now}
 use Rattle.result.specs.Emission.{piecesOf}
@@ -9,59 +10,42 @@ use Rattle.result.proofs.Sizes.{cap-of, cap-same, size-row}
 use borrow.Author.Needs.{needs}
 use Rattle.result.proofs.turn_at.Statement.{statement}
 use Rattle.result.proofs.turn_at.Tie as tie
-use Rattle.result.proofs.turn_at.Reads as reads
-use Rattle.result.proofs.turn_at.Lts as lts
-use Rattle.result.proofs.cell_turn.Reads as cell-turn-reads
-use Rattle.result.proofs.ended_turn.Reads as ended-turn-reads
-use Rattle.result.proofs.info_turn.Reads as info-turn-reads
-use Rattle.result.proofs.set_turn.Reads as set-turn-reads
 
--- src/lib.rt:287:35
 set-turn-requires : tie.Need-set-turn-requires
 set-turn-requires c κs = search needs
 
--- src/lib.rt:287:24
 ended-turn-requires : tie.Need-ended-turn-requires
 ended-turn-requires c κs = search needs
 
--- src/lib.rt:288:25
 info-turn-requires : tie.Need-info-turn-requires
 info-turn-requires c κs = search needs
 
--- src/lib.rt:289:34
 info-turn-requires-2 : tie.Need-info-turn-requires-2
 info-turn-requires-2 c κs = search needs
 
--- src/lib.rt:291:25
 cell-turn-requires : tie.Need-cell-turn-requires
 cell-turn-requires c κs = search needs
 
--- src/lib.rt:282:1
 returns : tie.Need-returns
 unfolding piecesOf
 returns c = rw (c .before .before .match .keys1, c .ended-turn .ensures) (turned-done _ (now (c .before .before .before .before .before .args .s)) (c .before .before .before .before .before .args .next) (c .before .set-turn .result) (c .before .set-turn .ensures))
 
--- src/lib.rt:282:1
 returns-2 : tie.Need-returns-2
 unfolding piecesOf
 returns-2 c = rw (c .before .match .keys2) (c .info-turn .ensures)
 
--- src/lib.rt:282:1
 returns-3 : tie.Need-returns-3
 unfolding piecesOf
 returns-3 c = rw (c .before .match .keys3) (c .info-turn2 .ensures)
 
--- src/lib.rt:282:1
 returns-4 : tie.Need-returns-4
 unfolding piecesOf
 returns-4 c = rw (c .match .keys4) (turned-one row (now (c .before .before .before .args .s)) (c .before .before .before .args .next) _ refl (sym (cap-of 1 (omega arith)) ∙ cap-same (sym size-row)) (goes-here (now (c .before .before .before .args .s)) (c .before .before .before .args .next) (c .before .before .before .pre)))
 
--- src/lib.rt:282:1
 returns-5 : tie.Need-returns-5
 unfolding piecesOf
 returns-5 c = rw (c .before .match .keys5) (c .cell-turn .ensures)
 
--- src/lib.rt:282:1
 returns-6 : tie.Need-returns-6
 unfolding piecesOf
 returns-6 c = simp (ne-eqb _ _ (c .match .rest .0 .0 .0 .0 .1), ne-eqb _ _ (c .match .rest .0 .0 .0 .1), ne-eqb _ _ (c .match .rest .0 .0 .1), ne-eqb _ _ (c .match .rest .0 .1), ne-eqb _ _ (c .match .rest .1)) (turned-none (now (c .before .before .before .args .s)) (c .before .before .before .args .next) (c .before .before .before .pre))
