@@ -13,14 +13,14 @@ use Rattle.wire.specs.Over.{Wrote, overwrite}
 use Rattle.wire.specs.Fields.{Field, word, raw, flat}
 use Rattle.wire.proofs.Over.{then, wrote-as, ended, length-over}
 use Rattle.wire.proofs.Fields.{then-fields}
-use Rattle.token.specs.Tokens.{Token, Sent, bytesOf, putChunks}
+use Rattle.token.specs.Tokens.{Token, metadata, cell, Sent, long, joined, bytesOf, putChunks}
 use Rattle.script.specs.declared.Found.the-variants.{Record, Cut, End}
 use Rattle.script.specs.Records.{Item, records, recordAt}
 use Rattle.script.proofs.Walk.{turn, cuts, ends}
 use Rattle.result.specs.Runs.{ahead}
-use Rattle.result.specs.Emission.{Piece, told, columnToken, columnPieces, piecesOf, rowsAfter, emitFrom, bytesIn, doneToken, lastStatus}
+use Rattle.result.specs.Emission.{Piece, told, classified, columnToken, columnPieces, piecesOf, rowsAfter, emitFrom, bytesIn, doneToken, lastStatus}
 use Rattle.result.specs.Inner.{GoesOn}
-use Rattle.result.proofs.Sizes.{bytes-none, bytes-told, bytes-cat}
+use Rattle.result.proofs.Sizes.{bytes-none, bytes-told, bytes-classified, bytes-cat}
 
 -- With xs still to be written at the place to of the buffer m, ys are written at the place at of the buffer l: whoever
 -- writes xs there has written ys here
@@ -101,3 +101,18 @@ module _ (s : List ℕ) (at : ℕ) where
   pub chunks-none : ahead 6 (records (drop at s)) ≡ [] → chunksLeft ≡ le 4 0
   unfolding flat
   chunks-none e = ap (λ (ps : List (List ℕ)). flat (putChunks ps [])) e ∙ append-nil (le 4 0)
+
+-- ---- sets and cells
+
+-- the beginning of a set
+pub put-begins : (class : List ℕ) (cs : List (List ℕ)) {l m n k : List ℕ} {at a b to : ℕ} → Wrote l at (bytesOf (metadata (length cs))) m a → Wrote m a (bytesIn (columnPieces cs)) n b → Wrote n b class k to
+    → Wrote l at (bytesIn (told (metadata (length cs)) ∷ columnPieces cs ++ (classified class ∷ []))) k to
+put-begins class cs w v u =
+    wrote-as (then w (then v u))
+    (sym (bytes-told (metadata (length cs)) (columnPieces cs ++ (classified class ∷ []))
+    ∙ rw (bytes-cat (columnPieces cs) (classified class ∷ []), bytes-classified class [], bytes-none, append-nil class)))
+
+-- a cell in chunks
+pub put-long : (cs : List (List ℕ)) {l m n : List ℕ} {at a to : ℕ} → Wrote l at (le 8 (length (joined cs))) m a → Wrote m a (flat (putChunks cs [])) n to → Wrote l at (bytesOf (cell (long cs))) n to
+unfolding bytesOf flat
+put-long cs w v = then w v

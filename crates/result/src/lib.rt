@@ -4,7 +4,7 @@
 use script::Found;
 use wire::Part;
 ghost use mathlib.Core.Path.{_≡_};
-ghost use mathlib.Core.Bool.{cond, _||_};
+ghost use mathlib.Core.Bool.{cond, false, _||_};
 ghost use Prim.Native.Nat.{_+_, _^_, _≤_, _<_};
 ghost use lib.Dec.{eqb};
 ghost use lib.ListN.{length, take, drop};
@@ -13,7 +13,8 @@ ghost use Rattle.token.specs.Types.{dataTypeOf, typeCode, collationSize};
 ghost use Rattle.token.specs.Tokens.{bytesOf};
 ghost use mathlib.Core.List.{[], _∷_, _++_};
 ghost use Rattle.script.specs.Records.{records};
-ghost use Rattle.token.specs.Tokens.{cell, long};
+ghost use Rattle.script.specs.Shape.{numberWidth};
+ghost use Rattle.token.specs.Tokens.{cell, integer, long};
 ghost use Rattle.result.specs.Runs.{ahead};
 ghost use Rattle.result.specs.Emission.{told, columnToken, infoToken, cellOf, setPieces, piecesOf, emitFrom, errorIn, errorPieces, leadingStatus, setsOf, pieces, bytesIn, columnPieces};
 ghost use mathlib.Core.Option.{some};
@@ -503,4 +504,69 @@ fn put_chunks(buf: &mut [u8], at: usize, s: &[u8], from: usize) -> usize
             }
         }
     }
+}
+
+// The beginning of a set: COLMETADATA, columns, classification.
+fn put_set(buf: &mut [u8], at: usize, s: &[u8], class: &[u8], next: usize) -> Placed
+    requires { ⌜ next ≤ length (now s) ⌝ }
+    ensures { λ r. ⌜ Put (now (buf .entry)) at (bytesIn (setPieces (now (class .entry)) (records (drop next (now (s .entry)))))) (now (buf .exit)) (now (s .entry)) next r ⌝ }
+{
+    let run = run_at(s, next, script::COLUMN);
+    let a = token::put_colmetadata(buf, at, run.count);
+    let b = put_columns(buf, a, s, next);
+    let place = wire::put_slice(buf, b, class);
+    Placed { place, next: run.next }
+}
+
+// A cell in chunks: their total, the chunks, a zero length.
+fn put_chunked(buf: &mut [u8], at: usize, s: &[u8], next: usize) -> Placed
+    requires { ⌜ next ≤ length (now s) ⌝ }
+    ensures { λ r. ⌜ Put (now (buf .entry)) at (bytesOf (cell (long (ahead 6 (records (drop next (now (s .entry)))))))) (now (buf .exit)) (now (s .entry)) next r ⌝ }
+{
+    let run = run_at(s, next, script::CHUNK);
+    let a = wire::put_u64_le(buf, at, run.bytes as u64);
+    let place = put_chunks(buf, a, s, next);
+    Placed { place, next: run.next }
+}
+
+// A cell of an integer, by its value byte 1 to 4.
+fn put_number(buf: &mut [u8], at: usize, p: &[u8], value: u8) -> usize
+    ensures { λ r. ⌜ Wrote (now (buf .entry)) at (bytesOf (cell (integer (numberWidth value) (leAt (numberWidth value) (drop 1 (now (p .entry))))))) (now (buf .exit)) r ⌝ }
+{
+    match value {
+        1 => token::put_tinyint(buf, at, wire::get_u8(p, 1)),
+        2 => token::put_smallint(buf, at, wire::get_u16_le(p, 1)),
+        3 => token::put_int(buf, at, wire::get_u32_le(p, 1)),
+        _ => token::put_bigint(buf, at, wire::get_u64_le(p, 1)),
+    }
+}
+
+// A cell without chunks.
+fn put_plain(buf: &mut [u8], at: usize, p: &[u8], value: u8) -> usize
+    requires { ⌜ (value ≡ leAt 1 (now p)) × ((eqb value 6 || eqb value 8 || eqb value 9) ≡ false) ⌝ }
+    ensures { λ r. ⌜ Wrote (now (buf .entry)) at (bytesOf (cell (cellOf (now (p .entry)) []))) (now (buf .exit)) r ⌝ }
+{
+    if (1 <= value) & (value <= 4) {
+        return put_number(buf, at, p, value);
+    }
+    if value == 5 {
+        return token::put_nvarchar(buf, at, script::behind(p, 1));
+    }
+    if value == 7 {
+        return token::put_plp_null(buf, at);
+    }
+    token::put_null(buf, at)
+}
+
+// A cell, with its chunks where it has them.
+fn put_cell(buf: &mut [u8], at: usize, s: &[u8], p: &[u8], next: usize) -> Placed
+    requires { ⌜ next ≤ length (now s) ⌝ }
+    ensures { λ r. ⌜ Put (now (buf .entry)) at (bytesOf (cell (cellOf (now (p .entry)) (ahead 6 (records (drop next (now (s .entry)))))))) (now (buf .exit)) (now (s .entry)) next r ⌝ }
+{
+    let value = wire::get_u8(p, 0);
+    if (value == 6) | (value == 8) | (value == 9) {
+        return put_chunked(buf, at, s, next);
+    }
+    let place = put_plain(buf, at, p, value);
+    Placed { place, next }
 }
