@@ -6,3 +6,4 @@ pub mod Values
 pub mod Walks
 pub mod Replies
 pub mod Writes
+pub mod Builds

@@ -37,8 +37,8 @@ sizes-then : (ps qs : List Piece) (before z : ℕ) (r : Sized) → faultIn ps �
 sizes-then ps qs before z r f e h = record {
   fault = h .fault ∙ sym (fault-cat ps qs ∙ rw f);
   size = λ w.
-    h .size w ∙ cap-left (before + z) (length (bytesIn qs)) ∙ ap (λ (m : ℕ). capped (before + m + length (bytesIn qs))) e
-    ∙ cap-three before (length (bytesIn ps)) (length (bytesIn qs)) ∙ cap-same (omega (arith, size-cat ps qs));
+      h .size w ∙ cap-left (before + z) (length (bytesIn qs)) ∙ ap (λ (m : ℕ). capped (before + m + length (bytesIn qs))) e
+      ∙ cap-three before (length (bytesIn ps)) (length (bytesIn qs)) ∙ cap-same (omega (arith, size-cat ps qs));
 }
 
 -- a set's beginning, and what follows it
@@ -84,6 +84,10 @@ module _ (s : List ℕ) where
   pub sizes-first : (k st n : ℕ) (r : Sized) → recordAt s 0 ≡ Record k st n → Sizes (setsOf (take (st + n - st) (drop st s)) (records (drop (st + n) s))) 8 r → Sizes (pieces s) 8 r
   unfolding pieces emittedBy
   sizes-first k st n r e v = rw (turn s 0 e) (rw (add-sub-cancel-left st n) at v)
+
+  pub pieces-first : (k st n : ℕ) → recordAt s 0 ≡ Record k st n → pieces s ≡ setsOf (take (st + n - st) (drop st s)) (records (drop (st + n) s))
+  unfolding pieces emittedBy
+  pieces-first k st n e = rw (turn s 0 e, add-sub-cancel-left st n)
 
   pub sizes-none : pieces s ≡ [] → Sizes (pieces s) 8 (record { fault = 0; size = 8 })
   unfolding faultIn

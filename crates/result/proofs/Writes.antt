@@ -116,3 +116,40 @@ put-begins class cs w v u =
 pub put-long : (cs : List (List ℕ)) {l m n : List ℕ} {at a to : ℕ} → Wrote l at (le 8 (length (joined cs))) m a → Wrote m a (flat (putChunks cs [])) n to → Wrote l at (bytesOf (cell (long cs))) n to
 unfolding bytesOf flat
 put-long cs w v = then w v
+
+-- a token before pieces
+pub put-behind : (t : Token Sent) (ps : List Piece) {l m n : List ℕ} {at to end : ℕ} → Wrote l at (bytesOf t) m to → Wrote m to (bytesIn ps) n end → Wrote l at (bytesIn (told t ∷ ps)) n end
+put-behind t ps w v = wrote-as (then w v) (sym (bytes-told t ps))
+
+-- pieces before pieces
+pub put-pieces : (ps qs : List Piece) {l m n : List ℕ} {at to end : ℕ} → Wrote l at (bytesIn ps) m to → Wrote m to (bytesIn qs) n end → Wrote l at (bytesIn (ps ++ qs)) n end
+put-pieces ps qs w v = wrote-as (then w v) (sym (bytes-cat ps qs))
+
+-- no pieces
+pub put-none : (m : List ℕ) (to : ℕ) → to ≤ length m → Wrote m to (bytesIn []) m to
+put-none m to h = wrote-as (wrote-nothing m to h) (sym bytes-none)
+
+-- ---- the records from a place on
+
+module _ (s : List ℕ) (at rows : ℕ) where
+  abbrev pub recordsLeft : List ℕ
+  recordsLeft = bytesIn (emitFrom rows (records (drop at s)))
+
+  pub records-more : (k st n next : ℕ) → recordAt s at ≡ Record k st n → GoesOn s (st + n) next
+      → recordsLeft ≡ bytesIn (piecesOf rows k (take (st + n - st) (drop st s)) (records (drop (st + n) s))) ++ bytesIn (emitFrom (rowsAfter rows k) (records (drop next s)))
+  unfolding emitFrom
+  records-more k st n next e g =
+      rw (turn s at e, add-sub-cancel-left st n)
+      (bytes-cat (piecesOf rows k (take n (drop st s)) (records (drop (st + n) s))) (emitFrom (rowsAfter rows k) (records (drop (st + n) s)))
+      ∙ ap (λ (ps : List Piece). bytesIn (piecesOf rows k (take n (drop st s)) (records (drop (st + n) s))) ++ bytesIn ps) (g .same (rowsAfter rows k)))
+
+  last-is : emitFrom rows (records (drop at s)) ≡ told (doneToken lastStatus rows) ∷ [] → recordsLeft ≡ bytesOf (doneToken lastStatus rows)
+  last-is e = ap bytesIn e ∙ bytes-told (doneToken lastStatus rows) [] ∙ rw (bytes-none, append-nil (bytesOf (doneToken lastStatus rows)))
+
+  pub records-cut : recordAt s at ≡ Cut → recordsLeft ≡ bytesOf (doneToken lastStatus rows)
+  unfolding emitFrom
+  records-cut e = last-is (rw (cuts s at e))
+
+  pub records-end : recordAt s at ≡ End → recordsLeft ≡ bytesOf (doneToken lastStatus rows)
+  unfolding emitFrom
+  records-end e = last-is (rw (ends s at e))

@@ -4,7 +4,7 @@
 use script::Found;
 use wire::Part;
 ghost use mathlib.Core.Path.{_≡_};
-ghost use mathlib.Core.Bool.{cond, false, _||_};
+ghost use mathlib.Core.Bool.{cond, true, false, _||_};
 ghost use Prim.Native.Nat.{_+_, _^_, _≤_, _<_};
 ghost use lib.Dec.{eqb};
 ghost use lib.ListN.{length, take, drop};
@@ -16,13 +16,13 @@ ghost use Rattle.script.specs.Records.{records};
 ghost use Rattle.script.specs.Shape.{numberWidth};
 ghost use Rattle.token.specs.Tokens.{cell, integer, long};
 ghost use Rattle.result.specs.Runs.{ahead};
-ghost use Rattle.result.specs.Emission.{told, columnToken, infoToken, cellOf, setPieces, piecesOf, emitFrom, errorIn, errorPieces, leadingStatus, setsOf, pieces, bytesIn, columnPieces};
+ghost use Rattle.result.specs.Emission.{told, columnToken, infoToken, cellOf, setPieces, piecesOf, rowsAfter, emitFrom, errorIn, errorPieces, leadingStatus, setsOf, pieces, bytesIn, columnPieces};
 ghost use mathlib.Core.Option.{some};
 ghost use Rattle.wire.specs.Over.{Wrote};
 ghost use Rattle.wire.specs.Fields.{flat};
 ghost use Rattle.token.specs.Tokens.{putChunks};
-ghost use Rattle.result.specs.Room.{measureOf};
-ghost use Rattle.result.specs.Refusal.{tokenFault, longName};
+ghost use Rattle.result.specs.Room.{measureOf, isRoom};
+ghost use Rattle.result.specs.Refusal.{tokenFault, longName, builtOf, bufferOf};
 ghost use Rattle.result.specs.Inner.{capped, recordSize, recordFault, longerRun, Ahead, Turned, Sizes, errorFound, behindDone, Put};
 
 // What a builder answers: the bytes written, or the refusal's number.
@@ -47,6 +47,15 @@ pub const LONG_NAME: u8 = 16;
 pub const TOO_LONG: u8 = 17;
 // The lent buffer is too short.
 pub const NO_ROOM: u8 = 20;
+
+// The status of each kind of DONE.
+const MORE: u16 = 0x0001;
+
+const LAST: u16 = 0x0000;
+
+const LEADING: u16 = 0x0003;
+
+const TERMINAL: u16 = 0x0002;
 
 // The records of one kind that stand next at a place: how many, the bytes of their payloads, what they add to a reply as
 // far as it matters, the first fault among them, and the place behind them.
@@ -132,7 +141,11 @@ fn names_fault(server: &[u8], procedure: &[u8]) -> u8
 fn column_fault(p: &[u8]) -> u8
     ensures { λ r. ⌜ r ≡ tokenFault (columnToken (now (p .entry))) ⌝ }
 {
-    if is_long_name(script::behind(p, 6)) { LONG_NAME } else { NONE }
+    if is_long_name(script::behind(p, 6)) {
+        LONG_NAME
+    } else {
+        NONE
+    }
 }
 
 // What a column or a chunk adds to a reply, and its fault.
@@ -159,11 +172,21 @@ fn run_at(s: &[u8], at: usize, kind: u16) -> Run
     requires { ⌜ at ≤ length (now s) ⌝ }
     ensures { λ r. ⌜ Ahead (now (s .entry)) at kind r ⌝ }
 {
-    let mut run = Run { count: 0, bytes: 0, size: 0, fault: NONE, next: at };
+    let mut run = Run {
+        count: 0,
+        bytes: 0,
+        size: 0,
+        fault: NONE,
+        next: at,
+    };
     loop {
         let place = run.next;
         match script::record_at(s, place) {
-            Found::Record { kind: k, start, len } => {
+            Found::Record {
+                kind: k,
+                start,
+                len,
+            } => {
                 if k != kind {
                     return run;
                 }
@@ -208,7 +231,11 @@ fn error_in(s: &[u8], at: usize, kind: u16) -> ErrorAt
     let mut place = at;
     loop {
         match script::record_at(s, place) {
-            Found::Record { kind: k, start, len } => {
+            Found::Record {
+                kind: k,
+                start,
+                len,
+            } => {
                 if k == kind {
                     return ErrorAt::At(Part { start, len });
                 }
@@ -254,9 +281,16 @@ fn info_turn(s: &[u8], p: &[u8], next: usize) -> Turn
 {
     let server = script::info_server(p);
     let procedure = script::info_procedure(p);
-    let texts = grown(grown(script::info_message(p).len(), server.len()), procedure.len());
+    let texts = grown(
+        grown(script::info_message(p).len(), server.len()),
+        procedure.len(),
+    );
     let fault = names_fault(server, procedure);
-    Turn { fault, size: grown(17, texts), next }
+    Turn {
+        fault,
+        size: grown(17, texts),
+        next,
+    }
 }
 
 // A cell in chunks.
@@ -280,17 +314,29 @@ fn cell_turn(s: &[u8], p: &[u8], next: usize) -> Turn
     let value = wire::get_u8(p, 0);
     if (1 <= value) & (value <= 4) {
         let size = 1 + script::number_width(value) as usize;
-        return Turn { fault: NONE, size, next };
+        return Turn {
+            fault: NONE,
+            size,
+            next,
+        };
     }
     if value == 5 {
         let size = grown(2, script::behind(p, 1).len());
-        return Turn { fault: NONE, size, next };
+        return Turn {
+            fault: NONE,
+            size,
+            next,
+        };
     }
     if (value == 6) | (value == 8) | (value == 9) {
         return chunked_turn(s, next);
     }
     let size = if value == 7 { 8 } else { 1 };
-    Turn { fault: NONE, size, next }
+    Turn {
+        fault: NONE,
+        size,
+        next,
+    }
 }
 
 // What a record behind the first set's emits.
@@ -302,9 +348,17 @@ fn turn_at(s: &[u8], kind: u16, p: &[u8], next: usize) -> Turn
         script::SET => ended_turn(set_turn(s, p, next)),
         script::INFO => info_turn(s, p, next),
         script::TRAILING_INFO => info_turn(s, p, next),
-        script::ROW => Turn { fault: NONE, size: 1, next },
+        script::ROW => Turn {
+            fault: NONE,
+            size: 1,
+            next,
+        },
         script::CELL => cell_turn(s, p, next),
-        _ => Turn { fault: NONE, size: 0, next },
+        _ => Turn {
+            fault: NONE,
+            size: 0,
+            next,
+        },
     }
 }
 
@@ -312,7 +366,11 @@ fn turn_at(s: &[u8], kind: u16, p: &[u8], next: usize) -> Turn
 fn ended_turn(t: Turn) -> Turn
     ensures { λ r. ⌜ r ≡ behindDone t ⌝ }
 {
-    Turn { fault: t.fault, size: grown(13, t.size), next: t.next }
+    Turn {
+        fault: t.fault,
+        size: grown(13, t.size),
+        next: t.next,
+    }
 }
 
 // Faults and size of what the records from a place on emit, behind bytes before.
@@ -328,16 +386,25 @@ fn sizes_from(s: &[u8], at: usize, before: usize) -> Sized
                 let next = start + len;
                 let turn = turn_at(s, kind, &s[start..next], next);
                 if turn.fault != NONE {
-                    return Sized { fault: turn.fault, size };
+                    return Sized {
+                        fault: turn.fault,
+                        size,
+                    };
                 }
                 size = grown(size, turn.size);
                 place = turn.next;
             }
             Found::Cut => {
-                return Sized { fault: NONE, size: grown(size, 13) };
+                return Sized {
+                    fault: NONE,
+                    size: grown(size, 13),
+                };
             }
             Found::End => {
-                return Sized { fault: NONE, size: grown(size, 13) };
+                return Sized {
+                    fault: NONE,
+                    size: grown(size, 13),
+                };
             }
         }
     }
@@ -350,7 +417,10 @@ fn sets_size(s: &[u8], class: &[u8], next: usize, before: usize) -> Sized
 {
     let turn = set_turn(s, class, next);
     if turn.fault != NONE {
-        return Sized { fault: turn.fault, size: before };
+        return Sized {
+            fault: turn.fault,
+            size: before,
+        };
     }
     let at = turn.next;
     sizes_from(s, at, grown(before, turn.size))
@@ -388,12 +458,22 @@ fn emitted_size(s: &[u8]) -> Sized
     ensures { λ r. ⌜ Sizes (pieces (now (s .entry))) 8 r ⌝ }
 {
     match script::record_at(s, 0) {
-        Found::Record { kind: _, start, len } => {
+        Found::Record {
+            kind: _,
+            start,
+            len,
+        } => {
             let next = start + len;
             reply_size(s, &s[start..next], next)
         }
-        Found::Cut => Sized { fault: NONE, size: 8 },
-        Found::End => Sized { fault: NONE, size: 8 },
+        Found::Cut => Sized {
+            fault: NONE,
+            size: 8,
+        },
+        Found::End => Sized {
+            fault: NONE,
+            size: 8,
+        },
     }
 }
 
@@ -438,7 +518,18 @@ fn put_info(buf: &mut [u8], at: usize, p: &[u8]) -> usize
     let message = script::info_message(p);
     let server = script::info_server(p);
     let procedure = script::info_procedure(p);
-    token::put_message(buf, at, token::INFO, number, state, severity, message, server, procedure, line)
+    token::put_message(
+        buf,
+        at,
+        token::INFO,
+        number,
+        state,
+        severity,
+        message,
+        server,
+        procedure,
+        line,
+    )
 }
 
 // An error and its DONE.
@@ -448,7 +539,18 @@ fn put_error(buf: &mut [u8], at: usize, p: &[u8], status: u16) -> usize
     let number = wire::get_u32_le(p, 0);
     let severity = wire::get_u8(p, 4);
     let none = &p[..0];
-    let next = token::put_message(buf, at, token::ERROR, number, 1, severity, script::behind(p, 5), none, none, 1);
+    let next = token::put_message(
+        buf,
+        at,
+        token::ERROR,
+        number,
+        1,
+        severity,
+        script::behind(p, 5),
+        none,
+        none,
+        1,
+    );
     token::put_done(buf, next, status, 0)
 }
 
@@ -515,7 +617,10 @@ fn put_set(buf: &mut [u8], at: usize, s: &[u8], class: &[u8], next: usize) -> Pl
     let a = token::put_colmetadata(buf, at, run.count);
     let b = put_columns(buf, a, s, next);
     let place = wire::put_slice(buf, b, class);
-    Placed { place, next: run.next }
+    Placed {
+        place,
+        next: run.next,
+    }
 }
 
 // A cell in chunks: their total, the chunks, a zero length.
@@ -526,7 +631,10 @@ fn put_chunked(buf: &mut [u8], at: usize, s: &[u8], next: usize) -> Placed
     let run = run_at(s, next, script::CHUNK);
     let a = wire::put_u64_le(buf, at, run.bytes as u64);
     let place = put_chunks(buf, a, s, next);
-    Placed { place, next: run.next }
+    Placed {
+        place,
+        next: run.next,
+    }
 }
 
 // A cell of an integer, by its value byte 1 to 4.
@@ -569,4 +677,187 @@ fn put_cell(buf: &mut [u8], at: usize, s: &[u8], p: &[u8], next: usize) -> Place
     }
     let place = put_plain(buf, at, p, value);
     Placed { place, next }
+}
+
+// What a record behind the first set's emits; rows are those of the set so far.
+fn put_turn(
+    buf: &mut [u8],
+    at: usize,
+    s: &[u8],
+    kind: u16,
+    p: &[u8],
+    next: usize,
+    rows: u64,
+) -> Placed
+    requires { ⌜ (at ≤ length (now buf)) × (next ≤ length (now s)) ⌝ }
+    ensures { λ r. ⌜ Put (now (buf .entry)) at (bytesIn (piecesOf rows kind (now (p .entry)) (records (drop next (now (s .entry)))))) (now (buf .exit)) (now (s .entry)) next r ⌝ }
+{
+    match kind {
+        script::SET => {
+            let a = token::put_done(buf, at, MORE, rows);
+            put_set(buf, a, s, p, next)
+        }
+        script::INFO => Placed {
+            place: put_info(buf, at, p),
+            next,
+        },
+        script::TRAILING_INFO => Placed {
+            place: put_info(buf, at, p),
+            next,
+        },
+        script::ROW => Placed {
+            place: token::put_row(buf, at),
+            next,
+        },
+        script::CELL => put_cell(buf, at, s, p, next),
+        _ => Placed { place: at, next },
+    }
+}
+
+// The rows of a set behind a record.
+fn rows_after(rows: u64, kind: u16) -> u64
+    requires { ⌜ rows + 1 < 2 ^ 64 ⌝ }
+    ensures { λ r. ⌜ (r ≡ rowsAfter rows kind) × (r ≤ rows + 1) ⌝ }
+{
+    match kind {
+        script::SET => 0,
+        script::ROW => rows + 1,
+        _ => rows,
+    }
+}
+
+// What the records from a place on emit, and the last set's DONE.
+fn put_records(buf: &mut [u8], at: usize, s: &[u8], from: usize) -> usize
+    requires { ⌜ (at ≤ length (now buf)) × (from ≤ length (now s)) ⌝ }
+    ensures { λ r. ⌜ Wrote (now (buf .entry)) at (bytesIn (emitFrom 0 (records (drop from (now (s .entry)))))) (now (buf .exit)) r ⌝ }
+{
+    let mut to = at;
+    let mut place = from;
+    let mut rows: u64 = 0;
+    loop {
+        match script::record_at(s, place) {
+            Found::Record { kind, start, len } => {
+                let next = start + len;
+                let put = put_turn(buf, to, s, kind, &s[start..next], next, rows);
+                rows = rows_after(rows, kind);
+                to = put.place;
+                place = put.next;
+            }
+            Found::Cut => {
+                return token::put_done(buf, to, LAST, rows);
+            }
+            Found::End => {
+                return token::put_done(buf, to, LAST, rows);
+            }
+        }
+    }
+}
+
+// The error of the first set, where it has one, and its DONE.
+fn put_lead(buf: &mut [u8], at: usize, s: &[u8], error: ErrorAt, status: u16) -> usize
+    requires { ⌜ at ≤ length (now buf) ⌝ }
+    ensures { λ r. ⌜ Wrote (now (buf .entry)) at (bytesIn (errorPieces status (errorFound (now (s .entry)) error))) (now (buf .exit)) r ⌝ }
+{
+    match error {
+        ErrorAt::At(part) => put_error(buf, at, wire::part_of(s, part), status),
+        ErrorAt::Missing => at,
+    }
+}
+
+// The sets of a script whose first set has the classification class and goes on at next.
+fn put_sets(buf: &mut [u8], at: usize, s: &[u8], class: &[u8], next: usize) -> usize
+    requires { ⌜ (at ≤ length (now buf)) × (next ≤ length (now s)) ⌝ }
+    ensures { λ r. ⌜ Wrote (now (buf .entry)) at (bytesIn (setsOf (now (class .entry)) (records (drop next (now (s .entry)))))) (now (buf .exit)) r ⌝ }
+{
+    match error_in(s, next, script::TERMINAL_ERROR) {
+        ErrorAt::At(part) => put_error(buf, at, wire::part_of(s, part), TERMINAL),
+        ErrorAt::Missing => {
+            let a = put_lead(
+                buf,
+                at,
+                s,
+                error_in(s, next, script::LEADING_ERROR),
+                LEADING,
+            );
+            let set = put_set(buf, a, s, class, next);
+            let b = set.place;
+            let from = set.next;
+            put_records(buf, b, s, from)
+        }
+    }
+}
+
+// What a script emits.
+fn put_pieces(buf: &mut [u8], at: usize, s: &[u8]) -> usize
+    requires { ⌜ at ≤ length (now buf) ⌝ }
+    ensures { λ r. ⌜ Wrote (now (buf .entry)) at (bytesIn (pieces (now (s .entry)))) (now (buf .exit)) r ⌝ }
+{
+    match script::record_at(s, 0) {
+        Found::Record {
+            kind: _,
+            start,
+            len,
+        } => {
+            let next = start + len;
+            put_sets(buf, at, s, &s[start..next], next)
+        }
+        Found::Cut => at,
+        Found::End => at,
+    }
+}
+
+// The reply of a script, as one packet at the buffer's front: `build_query_results` of the Rust.
+pub fn build_query_results(script: &[u8], buf: &mut [u8]) -> Built
+    ensures { λ r. ⌜ r ≡ builtOf (now (script .entry)) (length (now (buf .entry))) ⌝ }
+    ensures { λ _. ⌜ now (buf .exit) ≡ bufferOf (now (script .entry)) (now (buf .entry)) ⌝ }
+{
+    match reply_length(script) {
+        Measure::Refused(number) => Built::Refused(number),
+        Measure::Size(length) => {
+            if buf.len() < length {
+                return Built::Refused(NO_ROOM);
+            }
+            let at = packet::write_reply_header(buf, (length % 65536) as u16);
+            put_pieces(buf, at, script);
+            Built::Written(length)
+        }
+    }
+}
+
+// The narrowings of `build_query_results`: a script that holds no more than each of them takes is what they send.
+pub fn build_query_result(script: &[u8], buf: &mut [u8]) -> Built
+    ensures { λ r. ⌜ r ≡ builtOf (now (script .entry)) (length (now (buf .entry))) ⌝ }
+    ensures { λ _. ⌜ now (buf .exit) ≡ bufferOf (now (script .entry)) (now (buf .entry)) ⌝ }
+{
+    build_query_results(script, buf)
+}
+
+pub fn build_query_result_with_trailing_info(script: &[u8], buf: &mut [u8]) -> Built
+    ensures { λ r. ⌜ r ≡ builtOf (now (script .entry)) (length (now (buf .entry))) ⌝ }
+    ensures { λ _. ⌜ now (buf .exit) ≡ bufferOf (now (script .entry)) (now (buf .entry)) ⌝ }
+{
+    build_query_results(script, buf)
+}
+
+pub fn build_query_result_with_extras(script: &[u8], buf: &mut [u8]) -> Built
+    ensures { λ r. ⌜ r ≡ builtOf (now (script .entry)) (length (now (buf .entry))) ⌝ }
+    ensures { λ _. ⌜ now (buf .exit) ≡ bufferOf (now (script .entry)) (now (buf .entry)) ⌝ }
+{
+    build_query_results(script, buf)
+}
+
+// Room to lend for a script's reply, or the script's refusal.
+pub enum Room {
+    Bytes(usize),
+    Denied(u8),
+}
+
+// The room estimate: at least the reply's length, and at most 32 more.
+pub fn room_estimate(script: &[u8]) -> Room
+    ensures { λ r. ⌜ isRoom (now (script .entry)) r ≡ true ⌝ }
+{
+    match reply_length(script) {
+        Measure::Size(length) => Room::Bytes(length),
+        Measure::Refused(number) => Room::Denied(number),
+    }
 }

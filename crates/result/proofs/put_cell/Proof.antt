@@ -1,3 +1,4 @@
+-- `result::put_cell` meets its contract. Assumes nothing.
 use denote.Ref.{now}
 use lib.ListN.{drop}
 use Rattle.script.specs.Records.{records}
@@ -7,37 +8,25 @@ use Rattle.result.proofs.Turns.{goes-here}
 use borrow.Author.Needs.{needs}
 use Rattle.result.proofs.put_cell.Statement.{statement}
 use Rattle.result.proofs.put_cell.Tie as tie
-use Rattle.result.proofs.put_cell.Reads as reads
-use Rattle.result.proofs.put_cell.Lts as lts
-use Rattle.result.proofs.put_chunked.Reads as put-chunked-reads
-use Rattle.result.proofs.put_plain.Reads as put-plain-reads
-use Rattle.wire.proofs.get_u8.Reads as get-u8-reads
 
--- src/lib.rt:566:9
 get-u8-requires : tie.Need-get-u8-requires
 get-u8-requires c κs = search needs
 
--- src/lib.rt:568:9
 put-chunked-requires : tie.Need-put-chunked-requires
 put-chunked-requires c κs = search needs
 
--- src/lib.rt:568:9
 same-length : tie.Need-same-length
 same-length c = search needs
 
--- src/lib.rt:568:9
 returns : tie.Need-returns
 returns c = rw (cell-of-chunks (now (c .before .before .before .before .before .before .before .before .before .args .p)) (ahead 6 (records (drop (c .before .before .before .before .before .before .before .before .before .args .next) (now (c .before .before .before .before .before .before .before .before .before .args .s))))) (c .before .before .before .before .before .get-u8 .result) (c .before .before .before .before .before .get-u8 .ensures) (c .before .before .before .before .if1 .taken)) (c .before .before .put-chunked .ensures)
 
--- src/lib.rt:570:9
 put-plain-requires : tie.Need-put-plain-requires
 put-plain-requires c κs = (c .before .before .get-u8 .ensures, c .before .if1 .left)
 
--- src/lib.rt:562:1
 same-length-2 : tie.Need-same-length-2
 same-length-2 c = search needs
 
--- src/lib.rt:562:1
 returns-2 : tie.Need-returns-2
 returns-2 c = let a = c .before .before .before .before .before .before .before .before .before .args in
     rw (cell-no-chunks (now (c .before .before .before .before .before .before .before .before .before .args .p)) (ahead 6 (records (drop (c .before .before .before .before .before .before .before .before .before .args .next) (now (c .before .before .before .before .before .before .before .before .before .args .s))))) (c .before .before .before .before .before .get-u8 .result) (c .before .before .before .before .before .get-u8 .ensures) (c .before .before .before .before .if1 .left)) (record { wrote = c .before .before .put-plain .ensures; goes = goes-here (now (a .s)) (a .next) (c .before .before .before .before .before .before .before .before .before .pre) })
