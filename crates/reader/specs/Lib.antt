@@ -1,0 +1,6 @@
+pub mod Places
+pub mod Cells
+pub mod Tokens
+pub mod Positions
+pub mod Reader
+pub mod Meaning
