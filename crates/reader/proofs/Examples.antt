@@ -1,7 +1,7 @@
 -- Worked packets: what a run over each tells, in one table that one theorem covers by computation. Cases 1 to 3 of document 01,
 -- a message, cells, and the refusals of a sender. Assumes nothing.
 use mathlib.Core.Path.{_≡_, refl}
-use mathlib.Core.Bool.{true, false}
+use mathlib.Core.Bool.{false}
 use mathlib.Core.List.{List, [], _∷_, _++_, map}
 use Prim.Native.Nat.{ℕ, zero, suc}
 use lib.IntN.{pos, negsuc}
