@@ -1,0 +1,5 @@
+pub mod Skip
+pub mod RowTurns
+pub mod ColumnTurns
+pub mod SetTurns
+pub mod Terminal
