@@ -2,7 +2,7 @@
 -- types are those put down and those of the columns from here on. Assumes nothing.
 use Prim.Native.Nat.{ℕ, suc, _+_, _-_, _≤_, _<_}
 use mathlib.Core.Path.{_≡_, refl, sym, ap, _∙_}
-use mathlib.Core.Bool.{Bool, true, false, not, _&&_, false≢true}
+use mathlib.Core.Bool.{Bool, true, false, not, and-eq-true-iff}
 use mathlib.Core.List.{List, [], _∷_, _++_, append-nil}
 use native.Mathlib.Nat.{add-sub-cancel-left}
 use native.Mathlib.Numerals.{add-one}
@@ -52,15 +52,10 @@ right-column : (c : ℕ) (p : List ℕ) (ps : List (List ℕ)) → columnFits c 
 unfolding wrongColumns
 right-column c p ps h = rw (h, add-one c)
 
--- the first of two tests that both hold
-both : (a b : Bool) → (a && b) ≡ true → a ≡ true
-both true b h = refl
-both false b h = h
-
 -- a right column is under the most
 pub under : (c : ℕ) (p : List ℕ) → columnFits c p ≡ true → c < 128
 unfolding columnFits
-under c p h = ltb-true c 128 (both (ltb c 128) (not (hasPair (drop 6 p))) h)
+under c p h = ltb-true c 128 (and-eq-true-iff (ltb c 128) (not (hasPair (drop 6 p))) .0 h .0)
 
 -- a type more is put down
 put-type : (types : List ℕ) (c : ℕ) (p : List ℕ) (ps : List (List ℕ)) → c < length types

@@ -3,3 +3,5 @@ pub mod RowTurns
 pub mod ColumnTurns
 pub mod SetTurns
 pub mod Terminal
+pub mod Inverts
+pub mod Accepts

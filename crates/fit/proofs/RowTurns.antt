@@ -1,16 +1,16 @@
 -- A turn of the walk over a row's cells. What is left of the row's misfits is what the cells from here on have against the
 -- columns that are left. Assumes nothing.
-use Prim.Native.Nat.{ℕ, suc, _+_, _-_, _≤_, _<_}
+use Prim.Native.Nat.{ℕ, suc, _+_, _-_, _<_}
 use mathlib.Core.Path.{_≡_, refl, sym, ap, _∙_}
-use mathlib.Core.Bool.{Bool, true≢false, true, false, not, cond}
+use mathlib.Core.Bool.{Bool, true≢false, true, false}
 use mathlib.Core.List.{List, [], _∷_}
 use native.Mathlib.Nat.{add-sub-cancel-left, lt-of-not-le}
 use native.Mathlib.Numerals.{add-one}
 use native.Mathlib.Omega.{arith}
 use native.Mathlib.Decide.{decLe}
-use lib.ListN.{length, take, drop, getD, drop-of-length-le}
+use lib.ListN.{length, take, drop, drop-of-length-le}
 use lib.Seq.{drop-cons, drop-drop}
-use lib.Dec.{eqb, ltb}
+use lib.Dec.{eqb}
 use borrow.Author.Tests.{lt-ltb, le-ltb, not-true, not-false}
 use Rattle.script.specs.Records.{records, recordAt}
 use Rattle.script.specs.declared.Found.the-variants.{Record, Cut, End}
@@ -89,8 +89,8 @@ module _ (s : List ℕ) (from : ℕ) (types : List ℕ) (at c : ℕ) (left : Lef
   row-end h =
       let l = rw h at (left .0) in
       elim (decLe (length types) c) [
-        yes g ↦ rw (le-ltb c (length types) g) (sym l ∙ rw (drop-of-length-le types g), left .1)
-      | no g ↦ let g′ = lt-of-not-le g in rw (lt-ltb c (length types) g′) ([], sym l ∙ rw (drop-cons types c 0 g′))
+        | yes g ↦ rw (le-ltb c (length types) g) (sym l ∙ rw (drop-of-length-le types g), left .1)
+        | no g ↦ let g′ = lt-of-not-le g in rw (lt-ltb c (length types) g′) ([], sym l ∙ rw (drop-cons types c 0 g′))
       ]
 
   pub row-ended : {r : Row} → cellsIn (records (drop at s)) ≡ [] → r ≡ rowEnd c (length types) at → RowWalked s from types r
@@ -111,9 +111,9 @@ module _ (s : List ℕ) (from : ℕ) (types : List ℕ) (at c : ℕ) (left : Lef
 
     pub row-next : w ≡ false → Left s from types (st + n) (c + 1)
     row-next h = (
-          next-cell c types (take n (drop st s)) (cellsIn (records (drop (st + n) s))) (sym tested ∙ h) ∙ ap (wrongCells c (drop c types)) (sym (cells-cell s at e refl)) ∙ left .0,
-          skips-one s from at e refl refl (left .1),
-        )
+      next-cell c types (take n (drop st s)) (cellsIn (records (drop (st + n) s))) (sym tested ∙ h) ∙ ap (wrongCells c (drop c types)) (sym (cells-cell s at e refl)) ∙ left .0,
+      skips-one s from at e refl refl (left .1),
+    )
 
     pub row-room : w ≡ false → c < length types
     row-room h = has-column types c (take n (drop st s)) (sym tested ∙ h)

@@ -1,8 +1,8 @@
 -- A turn of the walk over a set's rows, and what its beginning adds. What is left of the set's misfits is what the records
 -- from here on have. Assumes nothing.
-use Prim.Native.Nat.{ℕ, suc, _+_, _-_, _≤_, _<_}
-use mathlib.Core.Path.{_≡_, refl, sym, ap, _∙_}
-use mathlib.Core.Bool.{true, false}
+use Prim.Native.Nat.{ℕ, suc, _+_, _-_, _≤_}
+use mathlib.Core.Path.{_≡_, refl, sym, _∙_}
+use mathlib.Core.Bool.{false}
 use mathlib.Core.List.{List, [], _∷_, _++_, map}
 use native.Mathlib.Nat.{le-refl, add-sub-cancel-left}
 use native.Mathlib.Numerals.{add-one}
@@ -15,7 +15,7 @@ use Rattle.script.proofs.Walk.{lies, turn, cuts, ends}
 use Rattle.result.specs.Runs.{ahead}
 use Rattle.result.specs.Emission.{rowsAfter}
 use Rattle.fit.specs.Misfits.{cellsIn, wrongInRow, wrongColumns, typesIn, setMisfits, rowMisfits, misfitsAt, misfitsFrom, setFrom, setsFrom, firstOf}
-use Rattle.fit.specs.Walks.{Skips, RowWalked, ColumnsWalked, Onward, goesOn, SetWalked}
+use Rattle.fit.specs.Walks.{RowWalked, ColumnsWalked, Onward, goesOn, SetWalked}
 use Rattle.fit.specs.declared.Misfit.{Misfit}
 use Rattle.fit.specs.declared.Misfit.the-variants.{Classification, Column, Cell}
 use Rattle.fit.specs.declared.Fit.the-variants.{Yes, No}

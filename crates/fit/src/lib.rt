@@ -13,9 +13,18 @@ ghost use Rattle.fit.specs.Walks.{cellWrong, rowEnd, RowWalked, ColumnsW
 
 // A misfit: the classification of a set, a column, or a cell. All numbers count from 0.
 pub enum Misfit {
-    Classification { set: usize },
-    Column { set: usize, column: usize },
-    Cell { set: usize, row: usize, column: usize },
+    Classification {
+        set: usize,
+    },
+    Column {
+        set: usize,
+        column: usize,
+    },
+    Cell {
+        set: usize,
+        row: usize,
+        column: usize,
+    },
 }
 
 // What the fit check answers: yes, no with the first misfit, or the refusal's number.
@@ -109,7 +118,11 @@ fn cell_wrong(types: &[u8], column: usize, p: &[u8]) -> bool
 fn row_end(cells: usize, columns: usize, at: usize) -> Row
     ensures { λ r. ⌜ r ≡ rowEnd cells columns at ⌝ }
 {
-    if cells < columns { Row::Wrong(cells) } else { Row::Right(at) }
+    if cells < columns {
+        Row::Wrong(cells)
+    } else {
+        Row::Right(at)
+    }
 }
 
 // A set's columns: all right, with their count and the place behind them, or the number of the first that is wrong.
@@ -221,7 +234,11 @@ fn walk_sets(s: &[u8]) -> Fit
             Found::End => {
                 return Fit::Yes;
             }
-            Found::Record { kind: _, start, len } => {
+            Found::Record {
+                kind: _,
+                start,
+                len,
+            } => {
                 let next = start + len;
                 match walk_set(s, set, &s[start..next], next) {
                     Set::Wrong(misfit) => {
@@ -271,7 +288,11 @@ fn is_terminal(s: &[u8]) -> bool
     match script::record_at(s, 0) {
         Found::Cut => false,
         Found::End => false,
-        Found::Record { kind: _, start, len } => has_terminal_error(s, start + len),
+        Found::Record {
+            kind: _,
+            start,
+            len,
+        } => has_terminal_error(s, start + len),
     }
 }
 

@@ -1,3 +1,4 @@
+-- `fit::cell_fits` meets its contract. Assumes nothing.
 use borrow.Author.Tests.{ne-eqb}
 use denote.Ref.{now}
 use lib.ListN.{length-drop}
@@ -5,45 +6,33 @@ use Rattle.fit.specs.Misfits.{cellFits}
 use borrow.Author.Needs.{needs}
 use Rattle.fit.proofs.cell_fits.Statement.{statement}
 use Rattle.fit.proofs.cell_fits.Tie as tie
-use Rattle.fit.proofs.cell_fits.Reads as reads
-use Rattle.fit.proofs.cell_fits.Lts as lts
-use Rattle.wire.proofs.get_u8.Reads as get-u8-reads
-use Rattle.wire.proofs.left.Reads as left-reads
 
--- src/lib.rt:36:9
 get-u8-requires : tie.Need-get-u8-requires
 get-u8-requires c κs = search needs
 
--- src/lib.rt:38:34
 left-requires : tie.Need-left-requires
 left-requires c κs = search needs
 
--- src/lib.rt:33:1
 returns : tie.Need-returns
 unfolding cellFits
 returns c = rw (← c .before .before .get-u8 .ensures, c .before .match .keys1, length-drop 1 (now (c .before .before .before .before .args .p)), ← c .left .ensures)
 
--- src/lib.rt:33:1
 returns-2 : tie.Need-returns-2
 unfolding cellFits
 returns-2 c = rw (← c .before .get-u8 .ensures, c .match .keys2)
 
--- src/lib.rt:33:1
 returns-3 : tie.Need-returns-3
 unfolding cellFits
 returns-3 c = rw (← c .before .get-u8 .ensures, c .match .keys3)
 
--- src/lib.rt:33:1
 returns-4 : tie.Need-returns-4
 unfolding cellFits
 returns-4 c = rw (← c .before .get-u8 .ensures, c .match .keys4)
 
--- src/lib.rt:33:1
 returns-5 : tie.Need-returns-5
 unfolding cellFits
 returns-5 c = rw (← c .before .get-u8 .ensures, c .match .keys5)
 
--- src/lib.rt:33:1
 returns-6 : tie.Need-returns-6
 unfolding cellFits
 returns-6 c = simp (← c .before .get-u8 .ensures, ne-eqb _ _ (c .match .rest .0 .0 .0 .0 .1), ne-eqb _ _ (c .match .rest .0 .0 .0 .1), ne-eqb _ _ (c .match .rest .0 .0 .1), ne-eqb _ _ (c .match .rest .0 .1), ne-eqb _ _ (c .match .rest .1))

@@ -1,3 +1,4 @@
+-- `fit::cell_wrong` meets its contract. Assumes nothing.
 use mathlib.Core.Bool.{not}
 use mathlib.Core.Path.{ap}
 use native.Mathlib.Omega.{arith}
@@ -8,24 +9,17 @@ use Rattle.fit.specs.Walks.{cellWrong}
 use borrow.Author.Needs.{needs}
 use Rattle.fit.proofs.cell_wrong.Statement.{statement}
 use Rattle.fit.proofs.cell_wrong.Tie as tie
-use Rattle.fit.proofs.cell_wrong.Reads as reads
-use Rattle.fit.proofs.cell_wrong.Lts as lts
-use Rattle.fit.proofs.cell_fits.Reads as cell-fits-reads
 
--- src/lib.rt:106:9
 returns : tie.Need-returns
 unfolding cellWrong
 returns c = rw (drop-of-length-le (now (c .before .before .before .args .types)) (c .if1 .taken))
 
--- src/lib.rt:108:16
 shared-slice-read-cell-fits : tie.Need-shared-slice-read-cell-fits
 shared-slice-read-cell-fits c = search needs
 
--- src/lib.rt:108:6
 cell-fits-requires : tie.Need-cell-fits-requires
 cell-fits-requires c κs = search needs
 
--- src/lib.rt:102:1
 returns-2 : tie.Need-returns-2
 unfolding cellWrong
 returns-2 c = rw (drop-cons (now (c .before .before .before .before .before .args .types)) (c .before .before .before .before .before .args .column) 0 (omega arith)) (ap not (c .cell-fits .ensures))

@@ -1,27 +1,20 @@
+-- `fit::first_misfit` meets its contract. Assumes nothing.
 use Rattle.fit.specs.Misfits.{misfits}
 use mathlib.Core.Path.{sym, _∙_}
 use borrow.Author.Needs.{needs}
 use Rattle.fit.proofs.first_misfit.Statement.{statement}
 use Rattle.fit.proofs.first_misfit.Tie as tie
-use Rattle.fit.proofs.first_misfit.Reads as reads
-use Rattle.fit.proofs.first_misfit.Lts as lts
-use Rattle.fit.proofs.is_terminal.Reads as is-terminal-reads
-use Rattle.fit.proofs.walk_sets.Reads as walk-sets-reads
 
--- src/lib.rt:282:8
 is-terminal-requires : tie.Need-is-terminal-requires
 is-terminal-requires c κs = search needs
 
--- src/lib.rt:283:9
 returns : tie.Need-returns
 unfolding misfits
 returns c = rw (sym (c .before .is-terminal .ensures) ∙ c .if1 .taken)
 
--- src/lib.rt:285:5
 walk-sets-requires : tie.Need-walk-sets-requires
 walk-sets-requires c κs = search needs
 
--- src/lib.rt:279:1
 returns-2 : tie.Need-returns-2
 unfolding misfits
 returns-2 c = rw (sym (c .before .before .is-terminal .ensures) ∙ c .before .if1 .left) (c .walk-sets .ensures)

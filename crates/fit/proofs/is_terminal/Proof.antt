@@ -1,3 +1,4 @@
+-- `fit::is_terminal` meets its contract. Assumes nothing.
 use Rattle.fit.proofs.Terminal.{terminal-cut, terminal-end, terminal-set}
 use Rattle.script.proofs.Walk.{lies}
 use native.Mathlib.Omega.{arith}
@@ -5,44 +6,31 @@ use mathlib.Core.Path.{sym, _∙_}
 use borrow.Author.Needs.{needs}
 use Rattle.fit.proofs.is_terminal.Statement.{statement}
 use Rattle.fit.proofs.is_terminal.Tie as tie
-use Rattle.fit.proofs.is_terminal.Reads as reads
-use Rattle.fit.proofs.is_terminal.Lts as lts
-use Rattle.fit.proofs.has_terminal_error.Reads as has-terminal-error-reads
-use Rattle.script.proofs.record_at.Reads as record-at-reads
 
--- src/lib.rt:271:11
 record-at-requires : tie.Need-record-at-requires
 record-at-requires c κs = search needs
 
--- src/lib.rt:272:23
 enum-told : tie.Need-enum-told
 enum-told c = search needs
 
--- src/lib.rt:273:23
 enum-told-2 : tie.Need-enum-told-2
 enum-told-2 c = search needs
 
--- src/lib.rt:274:34
 enum-known-start : tie.Need-enum-known-start
 enum-known-start c = search needs
 
--- src/lib.rt:274:72
 add-has-terminal-error : tie.Need-add-has-terminal-error
 add-has-terminal-error c = omega (arith, lies _ _ (sym (c .before .before .before .record-at .ensures) ∙ c .before .start .given .1))
 
--- src/lib.rt:274:50
 has-terminal-error-requires : tie.Need-has-terminal-error-requires
 has-terminal-error-requires c κs = search needs
 
--- src/lib.rt:268:1
 returns : tie.Need-returns
 returns c = terminal-cut _ (sym (c .before .before .record-at .ensures) ∙ c .enum-told .given .1)
 
--- src/lib.rt:268:1
 returns-2 : tie.Need-returns-2
 returns-2 c = terminal-end _ (sym (c .before .before .record-at .ensures) ∙ c .enum-told2 .given .1)
 
--- src/lib.rt:268:1
 returns-3 : tie.Need-returns-3
 returns-3 c = c .has-terminal-error .ensures ∙ terminal-set _ (sym (c .before .before .before .before .record-at .ensures) ∙ c .before .before .start .given .1)
 

@@ -1,22 +1,19 @@
+-- `fit::walk_row` meets its contract. The loop's invariant: what the cells from `at` on have against the columns that are left is
+-- what the row has against all its columns, and the records passed have no misfit of their own. Assumes nothing.
 use Rattle.fit.proofs.RowTurns.{Left, cells-cut, cells-end, cells-other, row-none, row-start, row-ended, row-chunk, row-wrong, row-next, row-room}
 use Rattle.fit.proofs.Skip.{kind-is}
 use Rattle.script.proofs.Walk.{lies}
 use borrow.Author.Tests.{ne-eqb}
 use Rattle.script.specs.Records.{recordAt}
 use Rattle.script.specs.declared.Found.the-variants.{Record}
-use Prim.Native.Nat.{ℕ, suc, _+_, _-_, _*_, _≤_, _<_}
-use mathlib.Core.Path.{_≡_, refl, sym, ap, _∙_}
-use lib.ListN.{length, take, drop, getD}
+use Prim.Native.Nat.{_-_}
+use mathlib.Core.Path.{_≡_, sym, _∙_}
+use lib.ListN.{length}
 use native.Mathlib.Omega.{arith}
 use borrow.Author.Needs.{needs}
 use denote.Ref.{now}
 use Rattle.fit.proofs.walk_row.Statement.{statement}
 use Rattle.fit.proofs.walk_row.Tie as tie
-use Rattle.fit.proofs.walk_row.Reads as reads
-use Rattle.fit.proofs.walk_row.Lts as lts
-use Rattle.fit.proofs.cell_wrong.Reads as cell-wrong-reads
-use Rattle.fit.proofs.row_end.Reads as row-end-reads
-use Rattle.script.proofs.record_at.Reads as record-at-reads
 
 abbrev Inv-loop : tie.InvT-loop
 Inv-loop s from types at₀ column₀ at column = Left s from types at column
@@ -29,95 +26,72 @@ found : (c : tie.After-kind Inv-loop μ-loop)
     → recordAt (now (c .before .before .before .before .before .before .before .args .s)) (c .before .before .before .loop .at) ≡ Record (c .kind .given .0 .0) (c .kind .given .0 .1 .0) (c .kind .given .0 .1 .1 .0)
 found c = sym (c .before .before .record-at .ensures) ∙ c .kind .given .1
 
--- src/lib.rt:67:9
 returns : tie.Need-returns Inv-loop μ-loop
 returns c = let a = c .before .before .before .args in row-none (now (a .s)) (a .from) (now (a .types)) (c .if1 .taken)
 
--- src/lib.rt:71:5
 loop-holds : tie.Need-loop-holds Inv-loop μ-loop
 loop-holds c = row-start _ _ _ (c .if1 .left)
 
--- src/lib.rt:72:15
 record-at-requires : tie.Need-record-at-requires Inv-loop μ-loop
 record-at-requires c κs = search needs
 
--- src/lib.rt:74:40
 enum-told : tie.Need-enum-told Inv-loop μ-loop
 enum-told c = search needs
 
--- src/lib.rt:74:17
 row-end-requires : tie.Need-row-end-requires Inv-loop μ-loop
 row-end-requires c κs = search needs
 
--- src/lib.rt:74:17
 returns-2 : tie.Need-returns-2 Inv-loop μ-loop
 returns-2 c = row-ended _ _ _ _ _ (c .before .before .before .before .loop .inv) (cells-cut _ _ (sym (c .before .before .before .record-at .ensures) ∙ c .before .enum-told .given .1)) (c .row-end .ensures)
 
--- src/lib.rt:77:40
 enum-told-2 : tie.Need-enum-told-2 Inv-loop μ-loop
 enum-told-2 c = search needs
 
--- src/lib.rt:77:17
 row-end-requires-2 : tie.Need-row-end-requires-2 Inv-loop μ-loop
 row-end-requires-2 c κs = search needs
 
--- src/lib.rt:77:17
 returns-3 : tie.Need-returns-3 Inv-loop μ-loop
 returns-3 c = row-ended _ _ _ _ _ (c .before .before .before .before .loop .inv) (cells-end _ _ (sym (c .before .before .before .record-at .ensures) ∙ c .before .enum-told2 .given .1)) (c .row-end2 .ensures)
 
--- src/lib.rt:79:29
 enum-known-kind : tie.Need-enum-known-kind Inv-loop μ-loop
 enum-known-kind c = search needs
 
--- src/lib.rt:80:28
 add-next : tie.Need-add-next Inv-loop μ-loop
 add-next c = omega (arith, lies _ _ (found (c .before)))
 
--- src/lib.rt:71:5
 loop-less : tie.Need-loop-less Inv-loop μ-loop
 loop-less c = omega (arith, lies _ _ (found (c .before .before)))
 
--- src/lib.rt:71:5
 loop-again : tie.Need-loop-again Inv-loop μ-loop
 loop-again c = row-chunk _ _ _ _ _ (c .before .before .before .before .before .loop .inv) (kind-is (found (c .before .before)) (c .if2 .taken))
 
--- src/lib.rt:86:21
 row-end-requires-3 : tie.Need-row-end-requires-3 Inv-loop μ-loop
 row-end-requires-3 c κs = search needs
 
--- src/lib.rt:86:21
 returns-4 : tie.Need-returns-4 Inv-loop μ-loop
 returns-4 c = row-ended _ _ _ _ _ (c .before .before .before .before .before .before .before .loop .inv) (cells-other _ _ (found (c .before .before .before .before)) (ne-eqb _ _ (c .before .if3 .taken)) (ne-eqb _ _ (c .before .before .if2 .left))) (c .row-end3 .ensures)
 
--- src/lib.rt:88:46
 sub-cell-wrong : tie.Need-sub-cell-wrong Inv-loop μ-loop
 sub-cell-wrong c = search needs
 
--- src/lib.rt:88:46
 part-cell-wrong-start : tie.Need-part-cell-wrong-start Inv-loop μ-loop
 part-cell-wrong-start c = search needs
 
--- src/lib.rt:88:46
 part-cell-wrong-end : tie.Need-part-cell-wrong-end Inv-loop μ-loop
 part-cell-wrong-end c = omega (arith, lies _ _ (found (c .before .before .before)))
 
--- src/lib.rt:88:20
 cell-wrong-requires : tie.Need-cell-wrong-requires Inv-loop μ-loop
 cell-wrong-requires c κs = search needs
 
--- src/lib.rt:89:21
 returns-5 : tie.Need-returns-5 Inv-loop μ-loop
 returns-5 c = row-wrong _ _ _ _ _ (c .before .before .before .before .before .before .before .before .before .loop .inv) (kind-is (found (c .before .before .before .before .before .before)) (c .before .before .before .if3 .left)) (c .before .cell-wrong .ensures) (c .if4 .taken)
 
--- src/lib.rt:91:17
 add-column : tie.Need-add-column Inv-loop μ-loop
 add-column c = omega (arith, row-room _ _ _ _ _ (c .before .before .before .before .before .before .before .before .before .loop .inv) (kind-is (found (c .before .before .before .before .before .before)) (c .before .before .before .if3 .left)) (c .before .cell-wrong .ensures) (c .if4 .left))
 
--- src/lib.rt:71:5
 loop-less-2 : tie.Need-loop-less-2 Inv-loop μ-loop
 loop-less-2 c = omega (arith, lies _ _ (found (c .before .before .before .before .before .before)))
 
--- src/lib.rt:71:5
 loop-again-2 : tie.Need-loop-again-2 Inv-loop μ-loop
 loop-again-2 c = row-next _ _ _ _ _ (c .before .before .before .before .before .before .before .before .before .loop .inv) (kind-is (found (c .before .before .before .before .before .before)) (c .before .before .before .if3 .left)) (c .before .cell-wrong .ensures) (c .if4 .left)
 

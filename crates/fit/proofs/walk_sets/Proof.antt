@@ -1,19 +1,16 @@
+-- `fit::walk_sets` meets its contract. The loop's invariant: the first misfit of the sets from `at` on is the script's. Assumes nothing.
 use Rattle.fit.proofs.SetTurns.{LeftSets, all-cut, all-end, all-wrong, all-onward, all-next}
 use Rattle.script.proofs.Walk.{lies}
 use Rattle.script.specs.Records.{recordAt}
 use Rattle.script.specs.declared.Found.the-variants.{Record}
-use Prim.Native.Nat.{ℕ, suc, _+_, _-_, _*_, _≤_, _<_}
-use mathlib.Core.Path.{_≡_, refl, sym, ap, _∙_}
-use lib.ListN.{length, take, drop, getD}
+use Prim.Native.Nat.{_-_}
+use mathlib.Core.Path.{_≡_, refl, sym, _∙_}
+use lib.ListN.{length}
 use native.Mathlib.Omega.{arith}
 use borrow.Author.Needs.{needs}
 use denote.Ref.{now}
 use Rattle.fit.proofs.walk_sets.Statement.{statement}
 use Rattle.fit.proofs.walk_sets.Tie as tie
-use Rattle.fit.proofs.walk_sets.Reads as reads
-use Rattle.fit.proofs.walk_sets.Lts as lts
-use Rattle.fit.proofs.walk_set.Reads as walk-set-reads
-use Rattle.script.proofs.record_at.Reads as record-at-reads
 
 abbrev Inv-loop : tie.InvT-loop
 Inv-loop s at₀ set₀ at set = LeftSets s at set
@@ -26,75 +23,57 @@ found : (c : tie.After-start Inv-loop μ-loop)
     → recordAt (now (c .before .before .before .before .before .args .s)) (c .before .before .before .loop .at) ≡ Record (c .start .given .0 .0) (c .start .given .0 .1 .0) (c .start .given .0 .1 .1 .0)
 found c = sym (c .before .before .record-at .ensures) ∙ c .start .given .1
 
--- src/lib.rt:216:5
 loop-holds : tie.Need-loop-holds Inv-loop μ-loop
 loop-holds c = (search needs, refl)
 
--- src/lib.rt:217:15
 record-at-requires : tie.Need-record-at-requires Inv-loop μ-loop
 record-at-requires c κs = search needs
 
--- src/lib.rt:219:17
 enum-told : tie.Need-enum-told Inv-loop μ-loop
 enum-told c = search needs
 
--- src/lib.rt:219:17
 returns : tie.Need-returns Inv-loop μ-loop
 returns c = all-cut _ _ _ (c .before .before .before .loop .inv) (sym (c .before .before .record-at .ensures) ∙ c .enum-told .given .1)
 
--- src/lib.rt:222:17
 enum-told-2 : tie.Need-enum-told-2 Inv-loop μ-loop
 enum-told-2 c = search needs
 
--- src/lib.rt:222:17
 returns-2 : tie.Need-returns-2 Inv-loop μ-loop
 returns-2 c = all-end _ _ _ (c .before .before .before .loop .inv) (sym (c .before .before .record-at .ensures) ∙ c .enum-told2 .given .1)
 
--- src/lib.rt:224:38
 enum-known-start : tie.Need-enum-known-start Inv-loop μ-loop
 enum-known-start c = search needs
 
--- src/lib.rt:225:28
 add-next : tie.Need-add-next Inv-loop μ-loop
 add-next c = omega (arith, lies _ _ (found (c .before)))
 
--- src/lib.rt:226:40
 sub-walk-set : tie.Need-sub-walk-set Inv-loop μ-loop
 sub-walk-set c = search needs
 
--- src/lib.rt:226:40
 part-walk-set-start : tie.Need-part-walk-set-start Inv-loop μ-loop
 part-walk-set-start c = omega (arith, lies _ _ (found (c .before)))
 
--- src/lib.rt:226:40
 part-walk-set-end : tie.Need-part-walk-set-end Inv-loop μ-loop
 part-walk-set-end c = omega (arith, lies _ _ (found (c .before)))
 
--- src/lib.rt:226:23
 walk-set-requires : tie.Need-walk-set-requires Inv-loop μ-loop
 walk-set-requires c κs = search needs
 
--- src/lib.rt:227:32
 enum-known-misfit : tie.Need-enum-known-misfit Inv-loop μ-loop
 enum-known-misfit c = search needs
 
--- src/lib.rt:228:25
 returns-3 : tie.Need-returns-3 Inv-loop μ-loop
 returns-3 c = all-wrong _ _ _ (c .before .before .before .before .before .before .before .before .before .loop .inv) (c .before .before .before .walk-set .result) (found (c .before .before .before .before .before .before)) (c .before .before .before .walk-set .ensures) (c .before .misfit .given .1)
 
--- src/lib.rt:230:32
 enum-known-behind : tie.Need-enum-known-behind Inv-loop μ-loop
 enum-known-behind c = search needs
 
--- src/lib.rt:231:25
 add-set : tie.Need-add-set Inv-loop μ-loop
 add-set c = omega (arith, lies _ _ (found (c .before .before .before .before .before .before)))
 
--- src/lib.rt:216:5
 loop-less : tie.Need-loop-less Inv-loop μ-loop
 loop-less c = omega (arith, lies _ _ (found (c .before .before .before .before .before .before)), all-onward _ _ _ (c .before .before .before .before .before .before .before .before .before .loop .inv) (c .before .before .before .walk-set .result) (found (c .before .before .before .before .before .before)) (c .before .before .before .walk-set .ensures) (c .before .behind .given .1))
 
--- src/lib.rt:216:5
 loop-again : tie.Need-loop-again Inv-loop μ-loop
 loop-again c = all-next _ _ _ (c .before .before .before .before .before .before .before .before .before .loop .inv) (c .before .before .before .walk-set .result) (found (c .before .before .before .before .before .before)) (c .before .before .before .walk-set .ensures) (c .before .behind .given .1)
 
