@@ -37,18 +37,16 @@ fn answer_header(input: &[u8], out: &mut [u8], at: usize) -> usize {
 // header TYPE STATUS LENGTH SPID NUMBER WINDOW eom=B ignore=B
 fn header_line(header: PacketHeader, out: &mut [u8], at: usize) -> usize {
     let packet_type = header.packet_type;
-    let at = lines::text(out, at, b"header ");
-    let at = lines::hex(out, at, packet_type.byte());
-    let at = lines::text(out, at, b" ");
-    let at = lines::hex(out, at, header.status.0);
-    header_numbers(header, out, at)
-}
-
-fn header_numbers(header: PacketHeader, out: &mut [u8], at: usize) -> usize {
-    let at = lines::number(out, at, header.length as u64);
-    let at = lines::number(out, at, header.spid as u64);
-    let at = lines::number(out, at, header.packet_id as u64);
-    let at = lines::number(out, at, header.window as u64);
+    let numbers = [
+        header.length as u64,
+        header.spid as u64,
+        header.packet_id as u64,
+        header.window as u64,
+    ];
+    let at = lines::text(out, at, b"header");
+    let at = lines::bytes(out, at, &[packet_type.byte()]);
+    let at = lines::bytes(out, at, &[header.status.0]);
+    let at = lines::numbers(out, at, &numbers);
     status_words(header.status, out, at)
 }
 

@@ -1,1 +1,7 @@
 pub mod Cases
+pub mod Sizes
+pub mod Aheads
+pub mod Turns
+pub mod Values
+pub mod Walks
+pub mod Replies

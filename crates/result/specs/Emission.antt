@@ -103,15 +103,20 @@ abbrev pub errorPieces : ℕ → Option (List ℕ) → List Piece
 errorPieces status none = []
 errorPieces status (some p) = told (errorToken p) ∷ told (doneToken status 0) ∷ []
 
--- kind 8 in the first set: its ERROR and DONE, nothing more; else what the sets emit, behind the ERROR and DONE of a kind 7
+-- kind 8 in the first set: its ERROR and DONE, nothing more; else what the sets emit
 abbrev pub orSets : Option (List ℕ) → List Piece → List Piece
 orSets none ps = ps
 orSets (some e) ps = errorPieces terminalStatus (some e)
 
+-- what a script emits whose first set has the classification p and goes on with rs: the sets stand behind the ERROR and DONE of a kind 7
+abbrev pub setsOf : List ℕ → List Item → List Piece
+setsOf p rs = orSets (errorIn 8 rs) (errorPieces leadingStatus (errorIn 7 rs) ++ (setPieces p rs ++ emitFrom 0 rs))
+
+-- the first record is the first set's
 unfoldable pub emittedBy : List Item → List Piece
 emittedBy [] = []
 emittedBy (cut ∷ rs) = []
-emittedBy (item k p ∷ rs) = orSets (errorIn 8 rs) (errorPieces leadingStatus (errorIn 7 rs) ++ (setPieces p rs ++ emitFrom 0 rs))
+emittedBy (item k p ∷ rs) = setsOf p rs
 
 -- the pieces of a script
 unfoldable pub pieces : List ℕ → List Piece
