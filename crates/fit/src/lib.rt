@@ -1,14 +1,12 @@
 // The fit check (document 01, 'The script'): whether a script fits, or the first misfit that it has. One pass over the
 // records, with the types of the set's columns at hand, behind the passes that find a script's refusal.
+use result::Measure;
 use script::Found;
 ghost use mathlib.Core.Path.{_≡_};
-ghost use mathlib.Core.List.{_++_};
-ghost use Prim.Native.Nat.{_≤_};
 ghost use lib.ListN.{length, drop};
 ghost use Rattle.script.specs.Records.{records};
-ghost use Rattle.result.specs.Runs.{ahead};
 ghost use Rattle.result.specs.Emission.{errorIn};
-ghost use Rattle.fit.specs.Misfits.{cellFits, columnFits, typesIn, misfitsFrom, setFrom, setsFrom, isThere, terminal, misfits, firstOf};
+ghost use Rattle.fit.specs.Misfits.{cellFits, columnFits, misfitsFrom, setFrom, setsFrom, isThere, terminal, misfits, firstOf, fitOf};
 ghost use Rattle.fit.specs.Walks.{cellWrong, rowEnd, RowWalked, ColumnsWalked, SetWalked};
 
 // A misfit: the classification of a set, a column, or a cell. All numbers count from 0.
@@ -304,4 +302,14 @@ fn first_misfit(s: &[u8]) -> Fit
         return Fit::Yes;
     }
     walk_sets(s)
+}
+
+// The fit check: whether a script fits, or its first misfit; or its refusal, 11 to 17.
+pub fn check(script: &[u8]) -> Fit
+    ensures { λ r. ⌜ r ≡ fitOf (now (script .entry)) ⌝ }
+{
+    match result::reply_length(script) {
+        Measure::Refused(number) => Fit::Refused(number),
+        Measure::Size(_) => first_misfit(script),
+    }
 }
