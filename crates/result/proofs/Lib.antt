@@ -5,3 +5,4 @@ pub mod Turns
 pub mod Values
 pub mod Walks
 pub mod Replies
+pub mod Writes

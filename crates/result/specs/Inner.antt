@@ -13,6 +13,8 @@ use Rattle.script.specs.Records.{records}
 use Rattle.result.specs.declared.Run.{Run}
 use Rattle.result.specs.declared.Turn.{Turn}
 use Rattle.result.specs.declared.Sized.{Sized}
+use Rattle.result.specs.declared.Placed.{Placed}
+use Rattle.wire.specs.Over.{Wrote}
 use Rattle.result.specs.declared.ErrorAt.{ErrorAt}
 use Rattle.result.specs.declared.ErrorAt.the-variants.{At, Missing}
 use Rattle.result.specs.Runs.{ahead, behind}
@@ -83,3 +85,8 @@ pub record Sizes (ps : List Piece) (before : ℕ) (r : Sized) : Type 0 where
 abbrev pub errorFound : List ℕ → ErrorAt → Option (List ℕ)
 errorFound s (At part) = some (Part·bytesOf s part)
 errorFound s Missing = none
+
+-- what a turn of the writing pass left: the bytes written from the place at on, and where the walk goes on in the place of next
+pub record Put (l : List ℕ) (at : ℕ) (xs m s : List ℕ) (next : ℕ) (r : Placed) : Type 0 where
+  pub wrote : Wrote l at xs m (r .place)
+  pub goes : GoesOn s next (r .next)

@@ -15,10 +15,14 @@ ghost use mathlib.Core.List.{[], _∷_, _++_};
 ghost use Rattle.script.specs.Records.{records};
 ghost use Rattle.token.specs.Tokens.{cell, long};
 ghost use Rattle.result.specs.Runs.{ahead};
-ghost use Rattle.result.specs.Emission.{told, columnToken, infoToken, cellOf, setPieces, piecesOf, emitFrom, errorIn, errorPieces, leadingStatus, setsOf, pieces, bytesIn};
+ghost use Rattle.result.specs.Emission.{told, columnToken, infoToken, cellOf, setPieces, piecesOf, emitFrom, errorIn, errorPieces, leadingStatus, setsOf, pieces, bytesIn, columnPieces};
+ghost use mathlib.Core.Option.{some};
+ghost use Rattle.wire.specs.Over.{Wrote};
+ghost use Rattle.wire.specs.Fields.{flat};
+ghost use Rattle.token.specs.Tokens.{putChunks};
 ghost use Rattle.result.specs.Room.{measureOf};
 ghost use Rattle.result.specs.Refusal.{tokenFault, longName};
-ghost use Rattle.result.specs.Inner.{capped, recordSize, recordFault, longerRun, Ahead, Turned, Sizes, errorFound, behindDone};
+ghost use Rattle.result.specs.Inner.{capped, recordSize, recordFault, longerRun, Ahead, Turned, Sizes, errorFound, behindDone, Put};
 
 // What a builder answers: the bytes written, or the refusal's number.
 pub enum Built {
@@ -408,4 +412,95 @@ pub fn reply_length(s: &[u8]) -> Measure
         return Measure::Refused(TOO_LONG);
     }
     Measure::Size(sized.size)
+}
+
+// The writing pass: the place behind what was written, and the place where the walk goes on.
+struct Placed {
+    place: usize,
+    next: usize,
+}
+
+fn put_column(buf: &mut [u8], at: usize, p: &[u8]) -> usize
+    ensures { λ r. ⌜ Wrote (now (buf .entry)) at (bytesOf (columnToken (now (p .entry)))) (now (buf .exit)) r ⌝ }
+{
+    let data_type = token::data_type_of(wire::get_u8(p, 0));
+    token::put_column(buf, at, data_type, collation(p), script::behind(p, 6))
+}
+
+fn put_info(buf: &mut [u8], at: usize, p: &[u8]) -> usize
+    ensures { λ r. ⌜ Wrote (now (buf .entry)) at (bytesOf (infoToken (now (p .entry)))) (now (buf .exit)) r ⌝ }
+{
+    let number = wire::get_u32_le(p, 0);
+    let state = wire::get_u8(p, 4);
+    let severity = wire::get_u8(p, 5);
+    let line = wire::get_u32_le(p, 6);
+    let message = script::info_message(p);
+    let server = script::info_server(p);
+    let procedure = script::info_procedure(p);
+    token::put_message(buf, at, token::INFO, number, state, severity, message, server, procedure, line)
+}
+
+// An error and its DONE.
+fn put_error(buf: &mut [u8], at: usize, p: &[u8], status: u16) -> usize
+    ensures { λ r. ⌜ Wrote (now (buf .entry)) at (bytesIn (errorPieces status (some (now (p .entry))))) (now (buf .exit)) r ⌝ }
+{
+    let number = wire::get_u32_le(p, 0);
+    let severity = wire::get_u8(p, 4);
+    let none = &p[..0];
+    let next = token::put_message(buf, at, token::ERROR, number, 1, severity, script::behind(p, 5), none, none, 1);
+    token::put_done(buf, next, status, 0)
+}
+
+// The columns that stand next in s.
+fn put_columns(buf: &mut [u8], at: usize, s: &[u8], from: usize) -> usize
+    requires { ⌜ (at ≤ length (now buf)) × (from ≤ length (now s)) ⌝ }
+    ensures { λ r. ⌜ Wrote (now (buf .entry)) at (bytesIn (columnPieces (ahead 2 (records (drop from (now (s .entry))))))) (now (buf .exit)) r ⌝ }
+{
+    let mut to = at;
+    let mut place = from;
+    loop {
+        match script::record_at(s, place) {
+            Found::Record { kind, start, len } => {
+                if kind != script::COLUMN {
+                    return to;
+                }
+                let next = start + len;
+                to = put_column(buf, to, &s[start..next]);
+                place = next;
+            }
+            Found::Cut => {
+                return to;
+            }
+            Found::End => {
+                return to;
+            }
+        }
+    }
+}
+
+// The chunks that stand next in s, and the zero length behind them.
+fn put_chunks(buf: &mut [u8], at: usize, s: &[u8], from: usize) -> usize
+    requires { ⌜ from ≤ length (now s) ⌝ }
+    ensures { λ r. ⌜ Wrote (now (buf .entry)) at (flat (putChunks (ahead 6 (records (drop from (now (s .entry))))) [])) (now (buf .exit)) r ⌝ }
+{
+    let mut to = at;
+    let mut place = from;
+    loop {
+        match script::record_at(s, place) {
+            Found::Record { kind, start, len } => {
+                if kind != script::CHUNK {
+                    return wire::put_u32_le(buf, to, 0);
+                }
+                let next = start + len;
+                to = token::put_chunk(buf, to, &s[start..next]);
+                place = next;
+            }
+            Found::Cut => {
+                return wire::put_u32_le(buf, to, 0);
+            }
+            Found::End => {
+                return wire::put_u32_le(buf, to, 0);
+            }
+        }
+    }
 }

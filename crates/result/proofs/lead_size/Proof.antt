@@ -1,4 +1,5 @@
 -- `result::lead_size` meets its contract. Assumes nothing.
+use Rattle.wire.specs.Part.{bytesOf as Part·bytesOf}
 use mathlib.Core.Path.{sym, ap, _∙_}
 use native.Mathlib.Omega.{arith}
 use denote.Ref.{now}

@@ -1,4 +1,5 @@
 -- `result::reply_size` meets its contract. Assumes nothing.
+use Rattle.wire.specs.Part.{bytesOf as Part·bytesOf}
 use mathlib.Core.Path.{sym, ap, _∙_}
 use denote.Ref.{now}
 use Prim.Native.Nat.{ℕ}
