@@ -93,11 +93,11 @@ module _ (s : List ℕ) (at k : ℕ) where
           bytes = omega (arith, h .bytes, more-bytes);
           small = cap-small (r .size + capped added);
           size =
-            cap-left (r .size + capped added) left ∙ cap-three (r .size) added left
-            ∙ ap (λ (m : ℕ). capped (r .size + m)) (sym more-size) ∙ h .size;
+              cap-left (r .size + capped added) left ∙ cap-three (r .size) added left
+              ∙ ap (λ (m : ℕ). capped (r .size + m)) (sym more-size) ∙ h .size;
           fault =
-            sym (first-of-three (r .fault) (recordFault k p) (runFault k (ahead k later)))
-            ∙ ap (λ (m : ℕ). cond (eqb (r .fault) 0) m (r .fault)) (sym more-fault) ∙ h .fault;
+              sym (first-of-three (r .fault) (recordFault k p) (runFault k (ahead k later)))
+              ∙ ap (λ (m : ℕ). cond (eqb (r .fault) 0) m (r .fault)) (sym more-fault) ∙ h .fault;
           behind-is = sym behind-later ∙ h .behind-is;
         })
 

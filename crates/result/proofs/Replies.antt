@@ -37,8 +37,8 @@ sizes-then : (ps qs : List Piece) (before z : ℕ) (r : Sized) → faultIn ps �
 sizes-then ps qs before z r f e h = record {
   fault = h .fault ∙ sym (fault-cat ps qs ∙ rw f);
   size = λ w.
-    h .size w ∙ cap-left (before + z) (length (bytesIn qs)) ∙ ap (λ (m : ℕ). capped (before + m + length (bytesIn qs))) e
-    ∙ cap-three before (length (bytesIn ps)) (length (bytesIn qs)) ∙ cap-same (omega (arith, size-cat ps qs));
+      h .size w ∙ cap-left (before + z) (length (bytesIn qs)) ∙ ap (λ (m : ℕ). capped (before + m + length (bytesIn qs))) e
+      ∙ cap-three before (length (bytesIn ps)) (length (bytesIn qs)) ∙ cap-same (omega (arith, size-cat ps qs));
 }
 
 -- a set's beginning, and what follows it

@@ -105,8 +105,8 @@ turned-set s class next run a =
     record {
       fault = a .fault ∙ sym (fault-cat (columnPieces cs) end ∙ one-fault (faultIn (columnPieces cs)) ∙ fault-columns cs);
       size =
-        ap (λ (n : ℕ). capped (capped (3 + length class) + n)) (a .size) ∙ cap-both (3 + length class) (runSize 2 cs)
-        ∙ cap-same (omega (arith, size-told (metadata (length cs)) (columnPieces cs ++ end), size-metadata (length cs), size-cat (columnPieces cs) end, size-class class [], size-nothing, size-columns cs));
+          ap (λ (n : ℕ). capped (capped (3 + length class) + n)) (a .size) ∙ cap-both (3 + length class) (runSize 2 cs)
+          ∙ cap-same (omega (arith, size-told (metadata (length cs)) (columnPieces cs ++ end), size-metadata (length cs), size-cat (columnPieces cs) end, size-class class [], size-nothing, size-columns cs));
       goes = goes-columns s next run a;
     }
 

@@ -131,7 +131,11 @@ fn names_fault(server: &[u8], procedure: &[u8]) -> u8
 fn column_fault(p: &[u8]) -> u8
     ensures { λ r. ⌜ r ≡ tokenFault (columnToken (now (p .entry))) ⌝ }
 {
-    if is_long_name(script::behind(p, 6)) { LONG_NAME } else { NONE }
+    if is_long_name(script::behind(p, 6)) {
+        LONG_NAME
+    } else {
+        NONE
+    }
 }
 
 // What a column or a chunk adds to a reply, and its fault.
@@ -158,11 +162,21 @@ fn run_at(s: &[u8], at: usize, kind: u16) -> Run
     requires { ⌜ at ≤ length (now s) ⌝ }
     ensures { λ r. ⌜ Ahead (now (s .entry)) at kind r ⌝ }
 {
-    let mut run = Run { count: 0, bytes: 0, size: 0, fault: NONE, next: at };
+    let mut run = Run {
+        count: 0,
+        bytes: 0,
+        size: 0,
+        fault: NONE,
+        next: at,
+    };
     loop {
         let place = run.next;
         match script::record_at(s, place) {
-            Found::Record { kind: k, start, len } => {
+            Found::Record {
+                kind: k,
+                start,
+                len,
+            } => {
                 if k != kind {
                     return run;
                 }
@@ -207,7 +221,11 @@ fn error_in(s: &[u8], at: usize, kind: u16) -> ErrorAt
     let mut place = at;
     loop {
         match script::record_at(s, place) {
-            Found::Record { kind: k, start, len } => {
+            Found::Record {
+                kind: k,
+                start,
+                len,
+            } => {
                 if k == kind {
                     return ErrorAt::At(Part { start, len });
                 }
@@ -253,9 +271,16 @@ fn info_turn(s: &[u8], p: &[u8], next: usize) -> Turn
 {
     let server = script::info_server(p);
     let procedure = script::info_procedure(p);
-    let texts = grown(grown(script::info_message(p).len(), server.len()), procedure.len());
+    let texts = grown(
+        grown(script::info_message(p).len(), server.len()),
+        procedure.len(),
+    );
     let fault = names_fault(server, procedure);
-    Turn { fault, size: grown(17, texts), next }
+    Turn {
+        fault,
+        size: grown(17, texts),
+        next,
+    }
 }
 
 // A cell in chunks.
@@ -279,17 +304,29 @@ fn cell_turn(s: &[u8], p: &[u8], next: usize) -> Turn
     let value = wire::get_u8(p, 0);
     if (1 <= value) & (value <= 4) {
         let size = 1 + script::number_width(value) as usize;
-        return Turn { fault: NONE, size, next };
+        return Turn {
+            fault: NONE,
+            size,
+            next,
+        };
     }
     if value == 5 {
         let size = grown(2, script::behind(p, 1).len());
-        return Turn { fault: NONE, size, next };
+        return Turn {
+            fault: NONE,
+            size,
+            next,
+        };
     }
     if (value == 6) | (value == 8) | (value == 9) {
         return chunked_turn(s, next);
     }
     let size = if value == 7 { 8 } else { 1 };
-    Turn { fault: NONE, size, next }
+    Turn {
+        fault: NONE,
+        size,
+        next,
+    }
 }
 
 // What a record behind the first set's emits.
@@ -301,9 +338,17 @@ fn turn_at(s: &[u8], kind: u16, p: &[u8], next: usize) -> Turn
         script::SET => ended_turn(set_turn(s, p, next)),
         script::INFO => info_turn(s, p, next),
         script::TRAILING_INFO => info_turn(s, p, next),
-        script::ROW => Turn { fault: NONE, size: 1, next },
+        script::ROW => Turn {
+            fault: NONE,
+            size: 1,
+            next,
+        },
         script::CELL => cell_turn(s, p, next),
-        _ => Turn { fault: NONE, size: 0, next },
+        _ => Turn {
+            fault: NONE,
+            size: 0,
+            next,
+        },
     }
 }
 
@@ -311,7 +356,11 @@ fn turn_at(s: &[u8], kind: u16, p: &[u8], next: usize) -> Turn
 fn ended_turn(t: Turn) -> Turn
     ensures { λ r. ⌜ r ≡ behindDone t ⌝ }
 {
-    Turn { fault: t.fault, size: grown(13, t.size), next: t.next }
+    Turn {
+        fault: t.fault,
+        size: grown(13, t.size),
+        next: t.next,
+    }
 }
 
 // Faults and size of what the records from a place on emit, behind bytes before.
@@ -327,16 +376,25 @@ fn sizes_from(s: &[u8], at: usize, before: usize) -> Sized
                 let next = start + len;
                 let turn = turn_at(s, kind, &s[start..next], next);
                 if turn.fault != NONE {
-                    return Sized { fault: turn.fault, size };
+                    return Sized {
+                        fault: turn.fault,
+                        size,
+                    };
                 }
                 size = grown(size, turn.size);
                 place = turn.next;
             }
             Found::Cut => {
-                return Sized { fault: NONE, size: grown(size, 13) };
+                return Sized {
+                    fault: NONE,
+                    size: grown(size, 13),
+                };
             }
             Found::End => {
-                return Sized { fault: NONE, size: grown(size, 13) };
+                return Sized {
+                    fault: NONE,
+                    size: grown(size, 13),
+                };
             }
         }
     }
@@ -349,7 +407,10 @@ fn sets_size(s: &[u8], class: &[u8], next: usize, before: usize) -> Sized
 {
     let turn = set_turn(s, class, next);
     if turn.fault != NONE {
-        return Sized { fault: turn.fault, size: before };
+        return Sized {
+            fault: turn.fault,
+            size: before,
+        };
     }
     let at = turn.next;
     sizes_from(s, at, grown(before, turn.size))
@@ -387,12 +448,22 @@ fn emitted_size(s: &[u8]) -> Sized
     ensures { λ r. ⌜ Sizes (pieces (now (s .entry))) 8 r ⌝ }
 {
     match script::record_at(s, 0) {
-        Found::Record { kind: _, start, len } => {
+        Found::Record {
+            kind: _,
+            start,
+            len,
+        } => {
             let next = start + len;
             reply_size(s, &s[start..next], next)
         }
-        Found::Cut => Sized { fault: NONE, size: 8 },
-        Found::End => Sized { fault: NONE, size: 8 },
+        Found::Cut => Sized {
+            fault: NONE,
+            size: 8,
+        },
+        Found::End => Sized {
+            fault: NONE,
+            size: 8,
+        },
     }
 }
 
@@ -437,7 +508,18 @@ fn put_info(buf: &mut [u8], at: usize, p: &[u8]) -> usize
     let message = script::info_message(p);
     let server = script::info_server(p);
     let procedure = script::info_procedure(p);
-    token::put_message(buf, at, token::INFO, number, state, severity, message, server, procedure, line)
+    token::put_message(
+        buf,
+        at,
+        token::INFO,
+        number,
+        state,
+        severity,
+        message,
+        server,
+        procedure,
+        line,
+    )
 }
 
 // An error and its DONE.
@@ -447,7 +529,18 @@ fn put_error(buf: &mut [u8], at: usize, p: &[u8], status: u16) -> usize
     let number = wire::get_u32_le(p, 0);
     let severity = wire::get_u8(p, 4);
     let none = &p[..0];
-    let next = token::put_message(buf, at, token::ERROR, number, 1, severity, script::behind(p, 5), none, none, 1);
+    let next = token::put_message(
+        buf,
+        at,
+        token::ERROR,
+        number,
+        1,
+        severity,
+        script::behind(p, 5),
+        none,
+        none,
+        1,
+    );
     token::put_done(buf, next, status, 0)
 }
 
