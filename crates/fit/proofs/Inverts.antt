@@ -35,12 +35,12 @@ kept false xs ys c h = absurd (cons≢nil h)
 -- ---- columns
 
 -- no name has a surrogate pair
-pub Pairless : List (List ℕ) → Type 0
+abbrev pub Pairless : List (List ℕ) → Type 0
 Pairless [] = Unit {0}
 Pairless (p ∷ ps) = (hasPair (drop 6 p) ≡ false) × Pairless ps
 
 columns-fit : (c : ℕ) (ps : List (List ℕ)) → c ≤ 128 → wrongColumns c ps ≡ [] → (c + length ps ≤ 128) × Pairless ps
-unfolding wrongColumns columnFits Pairless
+unfolding wrongColumns columnFits
 columns-fit c [] h e = (omega arith, tt)
 columns-fit c (p ∷ ps) h e =
     let k = kept (columnFits c p) (wrongColumns (suc c) ps) (wrongColumns (suc c) ps) c e in
@@ -65,6 +65,27 @@ cells-fit c (t ∷ ts) (p ∷ ps) e =
     let k = kept (cellFits t p) (wrongCells (suc c) ts ps) (wrongCells (suc c) ts ps) c e in
     cell (k .0) (cells-fit (suc c) ts ps (k .1))
 
+-- a row's cells, record by record: a cell, a chunk, and where the row ends
+matched : {types p : List ℕ} {ps : List (List ℕ)} → Match types (p ∷ ps) → (t : ℕ) × (ts : List ℕ) × (types ≡ t ∷ ts) × (cellFits t p ≡ true) × Match ts ps
+matched (cell {t = t} {ts = ts} h m) = (t, ts, refl, h, m)
+
+pub match-end : {types : List ℕ} → Match types [] → types ≡ []
+match-end noCell = refl
+
+module _ (types : List ℕ) (k : ℕ) (p : List ℕ) (rs : List Item) (m : Match types (cellsIn (item k p ∷ rs))) where
+  pub match-cell : eqb k 5 ≡ true → (t : ℕ) × (ts : List ℕ) × (types ≡ t ∷ ts) × (cellFits t p ≡ true) × Match ts (cellsIn rs)
+  unfolding cellsIn
+  match-cell h = matched (rw h at m)
+
+  pub match-chunk : eqb k 5 ≡ false → eqb k 6 ≡ true → Match types (cellsIn rs)
+  unfolding cellsIn
+  match-chunk h g = rw (h, g) at m
+
+  pub match-over : eqb k 5 ≡ false → eqb k 6 ≡ false → types ≡ []
+  unfolding cellsIn
+  match-over h g = match-end (rw (h, g) at m)
+
+-- a test, by what it says
 pub either : {X : Type 0} (b : Bool) → (b ≡ true → X) → (b ≡ false → X) → X
 either true f g = f refl
 either false f g = g refl

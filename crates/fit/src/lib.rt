@@ -129,7 +129,7 @@ enum Columns {
     Wrong(usize),
 }
 
-// A set's columns, from a place on. Their types are put to the start of types.
+// A set's columns, from a place on. Their types go to the start of types.
 fn walk_columns(s: &[u8], from: usize, types: &mut [u8; MOST_COLUMNS]) -> Columns
     requires { ⌜ length (now types) ≡ 128 ⌝ }
     ensures { λ r. ⌜ ColumnsWalked (now (s .entry)) from (now (types .exit)) r ⌝ }

@@ -12,7 +12,7 @@ has-pair-requires c κs = search needs
 
 returns : tie.Need-returns
 unfolding columnFits
-returns c = cc
+returns c = rw (c .has-pair .ensures, c .before .behind .ensures)
 
 pub column-fits-spec : {M : Type 1} → statement M
 column-fits-spec = tie.close (tie.spec behind-requires has-pair-requires returns)
