@@ -1,7 +1,7 @@
 // The packet header (MS-TDS 2.2.3.1): packet types, status, the header's eight bytes read and written, and the wrapping
 // of a reply. Stands for `PacketType`, `PacketStatus`, `PacketHeader` and `wrap_in_packet` of the Rust.
 ghost use mathlib.Core.Path.{_≡_};
-ghost use Rattle.wire.specs.Over.{Wrote};
+ghost use Rattle.wire.specs.Over.{overwrite, PlaceBehind};
 ghost use Rattle.packet.specs.Types.{byteOf, typeOf};
 ghost use Rattle.packet.specs.Status.{hasBit};
 ghost use Rattle.packet.specs.Header.{newHeader, parsedOf, headerBytes};
@@ -149,7 +149,8 @@ impl PacketHeader {
 
     // The header's eight bytes at a place of a lent buffer; the answer is the place behind them.
     pub fn write(self, buf: &mut [u8], at: usize) -> usize
-        ensures { λ r. ⌜ Wrote (now (buf .entry)) at (headerBytes self) (now (buf .exit)) r ⌝ }
+        ensures { λ _. ⌜ now (buf .exit) ≡ overwrite (now (buf .entry)) at (headerBytes self) ⌝ }
+        ensures { λ r. ⌜ PlaceBehind (now (buf .entry)) at (headerBytes self) r ⌝ }
     {
         let packet_type = self.packet_type;
         let next = wire::put_u8(buf, at, packet_type.byte());
@@ -163,7 +164,8 @@ impl PacketHeader {
 
 // A reply's header at the buffer's front, where its payload stands or is to stand behind it: length is that of the whole packet.
 pub fn write_reply_header(buf: &mut [u8], length: u16) -> usize
-    ensures { λ r. ⌜ Wrote (now (buf .entry)) 0 (replyHeader length) (now (buf .exit)) r ⌝ }
+    ensures { λ _. ⌜ now (buf .exit) ≡ overwrite (now (buf .entry)) 0 (replyHeader length) ⌝ }
+    ensures { λ r. ⌜ PlaceBehind (now (buf .entry)) 0 (replyHeader length) r ⌝ }
 {
     PacketHeader::new(PacketType::TabularResult, length, 1).write(buf, 0)
 }

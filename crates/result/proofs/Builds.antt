@@ -84,4 +84,4 @@ module _ (s : List ℕ) (buf : List ℕ) where
 
     pub written-buffer : {m k : List ℕ} {at to : ℕ} → n ≤ length buf → Wrote buf 0 (replyHeader (n % 65536)) m at → Wrote m at (bytesIn (pieces s)) k to → k ≡ bufferOf s buf
     unfolding bufferOf
-    written-buffer h w v = rw (← written-answer h) (then w v .bytes ∙ ap (overwrite buf 0) reply-is)
+    written-buffer h w v = rw (← written-answer h) (then w v .0 ∙ ap (overwrite buf 0) reply-is)

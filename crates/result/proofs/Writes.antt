@@ -39,13 +39,13 @@ owes-last l at ys m to xs f e w = f _ _ (wrote-as w (sym e))
 -- nothing is owed any more
 pub wrote-nothing : (m : List ℕ) (to : ℕ) → to ≤ length m → Wrote m to [] m to
 unfolding overwrite
-wrote-nothing m to h = record { place = omega arith; bytes = refl }
+wrote-nothing m to h = (refl, record { place = omega arith })
 
 -- a place that a writer answers lies in the buffer, which keeps its length
 pub place-in : {l m : List ℕ} {at to : ℕ} {xs : List ℕ} → Wrote l at xs m to → to ≤ length m
 place-in {l} {m} {at} {xs = xs} w =
-    let long : length m ≡ length l = ap length (w .bytes) ∙ length-over xs l at in
-    omega (arith, w .place)
+    let long : length m ≡ length l = ap length (w .0) ∙ length-over xs l at in
+    omega (arith, w .1 .place)
 
 -- one token, and two
 pub put-one : (t : Token Sent) {l m : List ℕ} {at to : ℕ} → Wrote l at (bytesOf t) m to → Wrote l at (bytesIn (told t ∷ [])) m to

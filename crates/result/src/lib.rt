@@ -18,7 +18,7 @@ ghost use Rattle.token.specs.Tokens.{cell, integer, long};
 ghost use Rattle.result.specs.Runs.{ahead};
 ghost use Rattle.result.specs.Emission.{told, columnToken, infoToken, cellOf, setPieces, piecesOf, rowsAfter, emitFrom, errorIn, errorPieces, leadingStatus, setsOf, pieces, bytesIn, columnPieces};
 ghost use mathlib.Core.Option.{some};
-ghost use Rattle.wire.specs.Over.{Wrote};
+ghost use Rattle.wire.specs.Over.{overwrite, PlaceBehind};
 ghost use Rattle.wire.specs.Fields.{flat};
 ghost use Rattle.token.specs.Tokens.{putChunks};
 ghost use Rattle.result.specs.Room.{measureOf, isRoom};
@@ -502,14 +502,16 @@ struct Placed {
 }
 
 fn put_column(buf: &mut [u8], at: usize, p: &[u8]) -> usize
-    ensures { λ r. ⌜ Wrote (now (buf .entry)) at (bytesOf (columnToken (now (p .entry)))) (now (buf .exit)) r ⌝ }
+    ensures { λ _. ⌜ now (buf .exit) ≡ overwrite (now (buf .entry)) at (bytesOf (columnToken (now (p .entry)))) ⌝ }
+    ensures { λ r. ⌜ PlaceBehind (now (buf .entry)) at (bytesOf (columnToken (now (p .entry)))) r ⌝ }
 {
     let data_type = token::data_type_of(wire::get_u8(p, 0));
     token::put_column(buf, at, data_type, collation(p), script::behind(p, 6))
 }
 
 fn put_info(buf: &mut [u8], at: usize, p: &[u8]) -> usize
-    ensures { λ r. ⌜ Wrote (now (buf .entry)) at (bytesOf (infoToken (now (p .entry)))) (now (buf .exit)) r ⌝ }
+    ensures { λ _. ⌜ now (buf .exit) ≡ overwrite (now (buf .entry)) at (bytesOf (infoToken (now (p .entry)))) ⌝ }
+    ensures { λ r. ⌜ PlaceBehind (now (buf .entry)) at (bytesOf (infoToken (now (p .entry)))) r ⌝ }
 {
     let number = wire::get_u32_le(p, 0);
     let state = wire::get_u8(p, 4);
@@ -534,7 +536,8 @@ fn put_info(buf: &mut [u8], at: usize, p: &[u8]) -> usize
 
 // An error and its DONE.
 fn put_error(buf: &mut [u8], at: usize, p: &[u8], status: u16) -> usize
-    ensures { λ r. ⌜ Wrote (now (buf .entry)) at (bytesIn (errorPieces status (some (now (p .entry))))) (now (buf .exit)) r ⌝ }
+    ensures { λ _. ⌜ now (buf .exit) ≡ overwrite (now (buf .entry)) at (bytesIn (errorPieces status (some (now (p .entry))))) ⌝ }
+    ensures { λ r. ⌜ PlaceBehind (now (buf .entry)) at (bytesIn (errorPieces status (some (now (p .entry))))) r ⌝ }
 {
     let number = wire::get_u32_le(p, 0);
     let severity = wire::get_u8(p, 4);
@@ -557,7 +560,8 @@ fn put_error(buf: &mut [u8], at: usize, p: &[u8], status: u16) -> usize
 // The columns that stand next in s.
 fn put_columns(buf: &mut [u8], at: usize, s: &[u8], from: usize) -> usize
     requires { ⌜ (at ≤ length (now buf)) × (from ≤ length (now s)) ⌝ }
-    ensures { λ r. ⌜ Wrote (now (buf .entry)) at (bytesIn (columnPieces (ahead 2 (records (drop from (now (s .entry))))))) (now (buf .exit)) r ⌝ }
+    ensures { λ _. ⌜ now (buf .exit) ≡ overwrite (now (buf .entry)) at (bytesIn (columnPieces (ahead 2 (records (drop from (now (s .entry))))))) ⌝ }
+    ensures { λ r. ⌜ PlaceBehind (now (buf .entry)) at (bytesIn (columnPieces (ahead 2 (records (drop from (now (s .entry))))))) r ⌝ }
 {
     let mut to = at;
     let mut place = from;
@@ -584,7 +588,8 @@ fn put_columns(buf: &mut [u8], at: usize, s: &[u8], from: usize) -> usize
 // The chunks that stand next in s, and the zero length behind them.
 fn put_chunks(buf: &mut [u8], at: usize, s: &[u8], from: usize) -> usize
     requires { ⌜ from ≤ length (now s) ⌝ }
-    ensures { λ r. ⌜ Wrote (now (buf .entry)) at (flat (putChunks (ahead 6 (records (drop from (now (s .entry))))) [])) (now (buf .exit)) r ⌝ }
+    ensures { λ _. ⌜ now (buf .exit) ≡ overwrite (now (buf .entry)) at (flat (putChunks (ahead 6 (records (drop from (now (s .entry))))) [])) ⌝ }
+    ensures { λ r. ⌜ PlaceBehind (now (buf .entry)) at (flat (putChunks (ahead 6 (records (drop from (now (s .entry))))) [])) r ⌝ }
 {
     let mut to = at;
     let mut place = from;
@@ -639,7 +644,8 @@ fn put_chunked(buf: &mut [u8], at: usize, s: &[u8], next: usize) -> Placed
 
 // A cell of an integer, by its value byte 1 to 4.
 fn put_number(buf: &mut [u8], at: usize, p: &[u8], value: u8) -> usize
-    ensures { λ r. ⌜ Wrote (now (buf .entry)) at (bytesOf (cell (integer (numberWidth value) (leAt (numberWidth value) (drop 1 (now (p .entry))))))) (now (buf .exit)) r ⌝ }
+    ensures { λ _. ⌜ now (buf .exit) ≡ overwrite (now (buf .entry)) at (bytesOf (cell (integer (numberWidth value) (leAt (numberWidth value) (drop 1 (now (p .entry))))))) ⌝ }
+    ensures { λ r. ⌜ PlaceBehind (now (buf .entry)) at (bytesOf (cell (integer (numberWidth value) (leAt (numberWidth value) (drop 1 (now (p .entry))))))) r ⌝ }
 {
     match value {
         1 => token::put_tinyint(buf, at, wire::get_u8(p, 1)),
@@ -652,7 +658,8 @@ fn put_number(buf: &mut [u8], at: usize, p: &[u8], value: u8) -> usize
 // A cell without chunks.
 fn put_plain(buf: &mut [u8], at: usize, p: &[u8], value: u8) -> usize
     requires { ⌜ (value ≡ leAt 1 (now p)) × ((eqb value 6 || eqb value 8 || eqb value 9) ≡ false) ⌝ }
-    ensures { λ r. ⌜ Wrote (now (buf .entry)) at (bytesOf (cell (cellOf (now (p .entry)) []))) (now (buf .exit)) r ⌝ }
+    ensures { λ _. ⌜ now (buf .exit) ≡ overwrite (now (buf .entry)) at (bytesOf (cell (cellOf (now (p .entry)) []))) ⌝ }
+    ensures { λ r. ⌜ PlaceBehind (now (buf .entry)) at (bytesOf (cell (cellOf (now (p .entry)) []))) r ⌝ }
 {
     if (1 <= value) & (value <= 4) {
         return put_number(buf, at, p, value);
@@ -729,7 +736,8 @@ fn rows_after(rows: u64, kind: u16) -> u64
 // What the records from a place on emit, and the last set's DONE.
 fn put_records(buf: &mut [u8], at: usize, s: &[u8], from: usize) -> usize
     requires { ⌜ (at ≤ length (now buf)) × (from ≤ length (now s)) ⌝ }
-    ensures { λ r. ⌜ Wrote (now (buf .entry)) at (bytesIn (emitFrom 0 (records (drop from (now (s .entry)))))) (now (buf .exit)) r ⌝ }
+    ensures { λ _. ⌜ now (buf .exit) ≡ overwrite (now (buf .entry)) at (bytesIn (emitFrom 0 (records (drop from (now (s .entry)))))) ⌝ }
+    ensures { λ r. ⌜ PlaceBehind (now (buf .entry)) at (bytesIn (emitFrom 0 (records (drop from (now (s .entry)))))) r ⌝ }
 {
     let mut to = at;
     let mut place = from;
@@ -756,7 +764,8 @@ fn put_records(buf: &mut [u8], at: usize, s: &[u8], from: usize) -> usize
 // The error of the first set, where it has one, and its DONE.
 fn put_lead(buf: &mut [u8], at: usize, s: &[u8], error: ErrorAt, status: u16) -> usize
     requires { ⌜ at ≤ length (now buf) ⌝ }
-    ensures { λ r. ⌜ Wrote (now (buf .entry)) at (bytesIn (errorPieces status (errorFound (now (s .entry)) error))) (now (buf .exit)) r ⌝ }
+    ensures { λ _. ⌜ now (buf .exit) ≡ overwrite (now (buf .entry)) at (bytesIn (errorPieces status (errorFound (now (s .entry)) error))) ⌝ }
+    ensures { λ r. ⌜ PlaceBehind (now (buf .entry)) at (bytesIn (errorPieces status (errorFound (now (s .entry)) error))) r ⌝ }
 {
     match error {
         ErrorAt::At(part) => put_error(buf, at, wire::part_of(s, part), status),
@@ -767,7 +776,8 @@ fn put_lead(buf: &mut [u8], at: usize, s: &[u8], error: ErrorAt, status: u16) ->
 // The sets of a script whose first set has the classification class and goes on at next.
 fn put_sets(buf: &mut [u8], at: usize, s: &[u8], class: &[u8], next: usize) -> usize
     requires { ⌜ (at ≤ length (now buf)) × (next ≤ length (now s)) ⌝ }
-    ensures { λ r. ⌜ Wrote (now (buf .entry)) at (bytesIn (setsOf (now (class .entry)) (records (drop next (now (s .entry)))))) (now (buf .exit)) r ⌝ }
+    ensures { λ _. ⌜ now (buf .exit) ≡ overwrite (now (buf .entry)) at (bytesIn (setsOf (now (class .entry)) (records (drop next (now (s .entry)))))) ⌝ }
+    ensures { λ r. ⌜ PlaceBehind (now (buf .entry)) at (bytesIn (setsOf (now (class .entry)) (records (drop next (now (s .entry)))))) r ⌝ }
 {
     match error_in(s, next, script::TERMINAL_ERROR) {
         ErrorAt::At(part) => put_error(buf, at, wire::part_of(s, part), TERMINAL),
@@ -790,7 +800,8 @@ fn put_sets(buf: &mut [u8], at: usize, s: &[u8], class: &[u8], next: usize) -> u
 // What a script emits.
 fn put_pieces(buf: &mut [u8], at: usize, s: &[u8]) -> usize
     requires { ⌜ at ≤ length (now buf) ⌝ }
-    ensures { λ r. ⌜ Wrote (now (buf .entry)) at (bytesIn (pieces (now (s .entry)))) (now (buf .exit)) r ⌝ }
+    ensures { λ _. ⌜ now (buf .exit) ≡ overwrite (now (buf .entry)) at (bytesIn (pieces (now (s .entry)))) ⌝ }
+    ensures { λ r. ⌜ PlaceBehind (now (buf .entry)) at (bytesIn (pieces (now (s .entry)))) r ⌝ }
 {
     match script::record_at(s, 0) {
         Found::Record {

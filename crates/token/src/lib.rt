@@ -5,7 +5,7 @@ ghost use mathlib.Core.List.{List, [], _∷_};
 ghost use Prim.Native.Nat.{_%_};
 ghost use lib.ListN.{length};
 ghost use Rattle.wire.specs.Fields.{flat, word, raw};
-ghost use Rattle.wire.specs.Over.{Wrote};
+ghost use Rattle.wire.specs.Over.{overwrite, PlaceBehind};
 ghost use Rattle.token.specs.Types.{dataTypeOf, typeCode, typeLength, lengthWidth, collationSize};
 ghost use Rattle.token.specs.Tokens.{metadata, column, row, cell, done, message, integer, noInteger, bounded, noLong, bytesOf, usVarchar, bVarchar, messageHead, messageLength, typeFields};
 
@@ -106,7 +106,8 @@ pub fn collation_size(code: u8) -> usize
 
 // COLMETADATA with its count of columns, which follow one by one.
 pub fn put_colmetadata(buf: &mut [u8], at: usize, count: usize) -> usize
-    ensures { λ r. ⌜ Wrote (now (buf .entry)) at (bytesOf (metadata count)) (now (buf .exit)) r ⌝ }
+    ensures { λ _. ⌜ now (buf .exit) ≡ overwrite (now (buf .entry)) at (bytesOf (metadata count)) ⌝ }
+    ensures { λ r. ⌜ PlaceBehind (now (buf .entry)) at (bytesOf (metadata count)) r ⌝ }
 {
     let next = wire::put_u8(buf, at, COLMETADATA);
     wire::put_u16_le(buf, next, (count % 65536) as u16)
@@ -114,14 +115,16 @@ pub fn put_colmetadata(buf: &mut [u8], at: usize, count: usize) -> usize
 
 // A row, whose cells follow one by one.
 pub fn put_row(buf: &mut [u8], at: usize) -> usize
-    ensures { λ r. ⌜ Wrote (now (buf .entry)) at (bytesOf row) (now (buf .exit)) r ⌝ }
+    ensures { λ _. ⌜ now (buf .exit) ≡ overwrite (now (buf .entry)) at (bytesOf row) ⌝ }
+    ensures { λ r. ⌜ PlaceBehind (now (buf .entry)) at (bytesOf row) r ⌝ }
 {
     wire::put_u8(buf, at, ROW)
 }
 
 // DONE with its status and count of rows.
 pub fn put_done(buf: &mut [u8], at: usize, status: u16, rows: u64) -> usize
-    ensures { λ r. ⌜ Wrote (now (buf .entry)) at (bytesOf (done status 0xC1 rows)) (now (buf .exit)) r ⌝ }
+    ensures { λ _. ⌜ now (buf .exit) ≡ overwrite (now (buf .entry)) at (bytesOf (done status 0xC1 rows)) ⌝ }
+    ensures { λ r. ⌜ PlaceBehind (now (buf .entry)) at (bytesOf (done status 0xC1 rows)) r ⌝ }
 {
     let a = wire::put_u8(buf, at, DONE);
     let b = wire::put_u16_le(buf, a, status);
@@ -131,14 +134,16 @@ pub fn put_done(buf: &mut [u8], at: usize, status: u16, rows: u64) -> usize
 
 // A text behind its count of units, in two bytes and in one.
 fn put_us_varchar(buf: &mut [u8], at: usize, text: &[u8]) -> usize
-    ensures { λ r. ⌜ Wrote (now (buf .entry)) at (flat (usVarchar (now (text .entry)) [])) (now (buf .exit)) r ⌝ }
+    ensures { λ _. ⌜ now (buf .exit) ≡ overwrite (now (buf .entry)) at (flat (usVarchar (now (text .entry)) [])) ⌝ }
+    ensures { λ r. ⌜ PlaceBehind (now (buf .entry)) at (flat (usVarchar (now (text .entry)) [])) r ⌝ }
 {
     let next = wire::put_u16_le(buf, at, (text.len() / 2 % 65536) as u16);
     wire::put_slice(buf, next, text)
 }
 
 fn put_b_varchar(buf: &mut [u8], at: usize, text: &[u8]) -> usize
-    ensures { λ r. ⌜ Wrote (now (buf .entry)) at (flat (bVarchar (now (text .entry)) [])) (now (buf .exit)) r ⌝ }
+    ensures { λ _. ⌜ now (buf .exit) ≡ overwrite (now (buf .entry)) at (flat (bVarchar (now (text .entry)) [])) ⌝ }
+    ensures { λ r. ⌜ PlaceBehind (now (buf .entry)) at (flat (bVarchar (now (text .entry)) [])) r ⌝ }
 {
     let next = wire::put_u8(buf, at, (text.len() / 2 % 256) as u8);
     wire::put_slice(buf, next, text)
@@ -154,7 +159,8 @@ fn put_message_head(
     state: u8,
     class: u8,
 ) -> usize
-    ensures { λ r. ⌜ Wrote (now (buf .entry)) at (flat (messageHead kind size number state class [])) (now (buf .exit)) r ⌝ }
+    ensures { λ _. ⌜ now (buf .exit) ≡ overwrite (now (buf .entry)) at (flat (messageHead kind size number state class [])) ⌝ }
+    ensures { λ r. ⌜ PlaceBehind (now (buf .entry)) at (flat (messageHead kind size number state class [])) r ⌝ }
 {
     let a = wire::put_u8(buf, at, kind);
     let b = wire::put_u16_le(buf, a, size);
@@ -184,7 +190,8 @@ pub fn put_message(
     procedure: &[u8],
     line: u32,
 ) -> usize
-    ensures { λ r. ⌜ Wrote (now (buf .entry)) at (bytesOf (message kind number state class (now (text .entry)) (now (server .entry)) (now (procedure .entry)) line)) (now (buf .exit)) r ⌝ }
+    ensures { λ _. ⌜ now (buf .exit) ≡ overwrite (now (buf .entry)) at (bytesOf (message kind number state class (now (text .entry)) (now (server .entry)) (now (procedure .entry)) line)) ⌝ }
+    ensures { λ r. ⌜ PlaceBehind (now (buf .entry)) at (bytesOf (message kind number state class (now (text .entry)) (now (server .entry)) (now (procedure .entry)) line)) r ⌝ }
 {
     let size = message_length(text, server, procedure);
     let a = put_message_head(buf, at, kind, size, number, state, class);
@@ -196,7 +203,8 @@ pub fn put_message(
 
 // A column's user type, flags, code and length.
 fn put_type_info(buf: &mut [u8], at: usize, t: SqlDataType) -> usize
-    ensures { λ r. ⌜ Wrote (now (buf .entry)) at (flat (typeFields 0 0 (typeCode t) (typeLength t) [])) (now (buf .exit)) r ⌝ }
+    ensures { λ _. ⌜ now (buf .exit) ≡ overwrite (now (buf .entry)) at (flat (typeFields 0 0 (typeCode t) (typeLength t) [])) ⌝ }
+    ensures { λ r. ⌜ PlaceBehind (now (buf .entry)) at (flat (typeFields 0 0 (typeCode t) (typeLength t) [])) r ⌝ }
 {
     let code = tds_type_code(t);
     let limit = max_length(t);
@@ -211,7 +219,8 @@ fn put_type_info(buf: &mut [u8], at: usize, t: SqlDataType) -> usize
 
 // A column: its type, its collation where the type has one, and its name.
 pub fn put_column(buf: &mut [u8], at: usize, t: SqlDataType, collation: &[u8], name: &[u8]) -> usize
-    ensures { λ r. ⌜ Wrote (now (buf .entry)) at (bytesOf (column 0 0 (typeCode t) (typeLength t) (now (collation .entry)) (now (name .entry)))) (now (buf .exit)) r ⌝ }
+    ensures { λ _. ⌜ now (buf .exit) ≡ overwrite (now (buf .entry)) at (bytesOf (column 0 0 (typeCode t) (typeLength t) (now (collation .entry)) (now (name .entry)))) ⌝ }
+    ensures { λ r. ⌜ PlaceBehind (now (buf .entry)) at (bytesOf (column 0 0 (typeCode t) (typeLength t) (now (collation .entry)) (now (name .entry)))) r ⌝ }
 {
     let a = put_type_info(buf, at, t);
     let b = wire::put_slice(buf, a, collation);
@@ -221,28 +230,32 @@ pub fn put_column(buf: &mut [u8], at: usize, t: SqlDataType, collation: &[u8], n
 
 // A cell of an integer, by the number of its bytes.
 pub fn put_tinyint(buf: &mut [u8], at: usize, v: u8) -> usize
-    ensures { λ r. ⌜ Wrote (now (buf .entry)) at (bytesOf (cell (integer 1 v))) (now (buf .exit)) r ⌝ }
+    ensures { λ _. ⌜ now (buf .exit) ≡ overwrite (now (buf .entry)) at (bytesOf (cell (integer 1 v))) ⌝ }
+    ensures { λ r. ⌜ PlaceBehind (now (buf .entry)) at (bytesOf (cell (integer 1 v))) r ⌝ }
 {
     let next = wire::put_u8(buf, at, 1);
     wire::put_u8(buf, next, v)
 }
 
 pub fn put_smallint(buf: &mut [u8], at: usize, v: u16) -> usize
-    ensures { λ r. ⌜ Wrote (now (buf .entry)) at (bytesOf (cell (integer 2 v))) (now (buf .exit)) r ⌝ }
+    ensures { λ _. ⌜ now (buf .exit) ≡ overwrite (now (buf .entry)) at (bytesOf (cell (integer 2 v))) ⌝ }
+    ensures { λ r. ⌜ PlaceBehind (now (buf .entry)) at (bytesOf (cell (integer 2 v))) r ⌝ }
 {
     let next = wire::put_u8(buf, at, 2);
     wire::put_u16_le(buf, next, v)
 }
 
 pub fn put_int(buf: &mut [u8], at: usize, v: u32) -> usize
-    ensures { λ r. ⌜ Wrote (now (buf .entry)) at (bytesOf (cell (integer 4 v))) (now (buf .exit)) r ⌝ }
+    ensures { λ _. ⌜ now (buf .exit) ≡ overwrite (now (buf .entry)) at (bytesOf (cell (integer 4 v))) ⌝ }
+    ensures { λ r. ⌜ PlaceBehind (now (buf .entry)) at (bytesOf (cell (integer 4 v))) r ⌝ }
 {
     let next = wire::put_u8(buf, at, 4);
     wire::put_u32_le(buf, next, v)
 }
 
 pub fn put_bigint(buf: &mut [u8], at: usize, v: u64) -> usize
-    ensures { λ r. ⌜ Wrote (now (buf .entry)) at (bytesOf (cell (integer 8 v))) (now (buf .exit)) r ⌝ }
+    ensures { λ _. ⌜ now (buf .exit) ≡ overwrite (now (buf .entry)) at (bytesOf (cell (integer 8 v))) ⌝ }
+    ensures { λ r. ⌜ PlaceBehind (now (buf .entry)) at (bytesOf (cell (integer 8 v))) r ⌝ }
 {
     let next = wire::put_u8(buf, at, 8);
     wire::put_u64_le(buf, next, v)
@@ -250,20 +263,23 @@ pub fn put_bigint(buf: &mut [u8], at: usize, v: u64) -> usize
 
 // A null of an integer, and of a Max value.
 pub fn put_null(buf: &mut [u8], at: usize) -> usize
-    ensures { λ r. ⌜ Wrote (now (buf .entry)) at (bytesOf (cell noInteger)) (now (buf .exit)) r ⌝ }
+    ensures { λ _. ⌜ now (buf .exit) ≡ overwrite (now (buf .entry)) at (bytesOf (cell noInteger)) ⌝ }
+    ensures { λ r. ⌜ PlaceBehind (now (buf .entry)) at (bytesOf (cell noInteger)) r ⌝ }
 {
     wire::put_u8(buf, at, 0)
 }
 
 pub fn put_plp_null(buf: &mut [u8], at: usize) -> usize
-    ensures { λ r. ⌜ Wrote (now (buf .entry)) at (bytesOf (cell noLong)) (now (buf .exit)) r ⌝ }
+    ensures { λ _. ⌜ now (buf .exit) ≡ overwrite (now (buf .entry)) at (bytesOf (cell noLong)) ⌝ }
+    ensures { λ r. ⌜ PlaceBehind (now (buf .entry)) at (bytesOf (cell noLong)) r ⌝ }
 {
     wire::put_u64_le(buf, at, 0xFFFF_FFFF_FFFF_FFFF)
 }
 
 // A bounded text.
 pub fn put_nvarchar(buf: &mut [u8], at: usize, text: &[u8]) -> usize
-    ensures { λ r. ⌜ Wrote (now (buf .entry)) at (bytesOf (cell (bounded (now (text .entry))))) (now (buf .exit)) r ⌝ }
+    ensures { λ _. ⌜ now (buf .exit) ≡ overwrite (now (buf .entry)) at (bytesOf (cell (bounded (now (text .entry))))) ⌝ }
+    ensures { λ r. ⌜ PlaceBehind (now (buf .entry)) at (bytesOf (cell (bounded (now (text .entry))))) r ⌝ }
 {
     let next = wire::put_u16_le(buf, at, (text.len() % 65536) as u16);
     wire::put_slice(buf, next, text)
@@ -271,7 +287,8 @@ pub fn put_nvarchar(buf: &mut [u8], at: usize, text: &[u8]) -> usize
 
 // A chunk of a Max value, behind its length.
 pub fn put_chunk(buf: &mut [u8], at: usize, chunk: &[u8]) -> usize
-    ensures { λ r. ⌜ Wrote (now (buf .entry)) at (flat (word 4 (length (now (chunk .entry))) ∷ raw (now (chunk .entry)) ∷ [])) (now (buf .exit)) r ⌝ }
+    ensures { λ _. ⌜ now (buf .exit) ≡ overwrite (now (buf .entry)) at (flat (word 4 (length (now (chunk .entry))) ∷ raw (now (chunk .entry)) ∷ [])) ⌝ }
+    ensures { λ r. ⌜ PlaceBehind (now (buf .entry)) at (flat (word 4 (length (now (chunk .entry))) ∷ raw (now (chunk .entry)) ∷ [])) r ⌝ }
 {
     let next = wire::put_u32_le(buf, at, (chunk.len() % 0x1_0000_0000) as u32);
     wire::put_slice(buf, next, chunk)

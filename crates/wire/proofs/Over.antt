@@ -8,7 +8,7 @@ use native.Mathlib.Omega.{arith}
 use native.Mathlib.Numerals.{add-one}
 use lib.ListN.{length, take, drop, set, getD, length-set, length-append, take-append-drop}
 use lib.Seq.{sets, sets-eq, set-out, take-suc, take-all, length-take-le}
-use Rattle.wire.specs.Over.{overwrite, Wrote}
+use Rattle.wire.specs.Over.{overwrite, PlaceBehind, Wrote}
 
 pub length-over : (xs l : List ℕ) (at : ℕ) → length (overwrite l at xs) ≡ length l
 unfolding overwrite
@@ -50,11 +50,11 @@ over-min ys l at =
 -- one write after another is one write
 pub then : {l m n : List ℕ} {at to end : ℕ} {xs ys : List ℕ} → Wrote l at xs m to → Wrote m to ys n end → Wrote l at (xs ++ ys) n end
 then {l} {m} {at = at} {to = to} {xs = xs} {ys = ys} w v =
-    let long : length m ≡ length l = ap length (w .bytes) ∙ length-over xs l at in
-    let there : min (at + length xs) (length m) ≡ to = sym (w .place ∙ ap (min (at + length xs)) (sym long)) in
+    let long : length m ≡ length l = ap length (w .0) ∙ length-over xs l at in
+    let there : min (at + length xs) (length m) ≡ to = sym (w .1 .place ∙ ap (min (at + length xs)) (sym long)) in
     let same : overwrite m to ys ≡ overwrite m (at + length xs) ys = rw there at (over-min ys m (at + length xs)) in
-    let all : overwrite m (at + length xs) ys ≡ overwrite l at (xs ++ ys) = rw (w .bytes) (over-cat xs ys l at) in
-    record { place = omega (arith, v .place, w .place, length-append xs ys); bytes = v .bytes ∙ same ∙ all }
+    let all : overwrite m (at + length xs) ys ≡ overwrite l at (xs ++ ys) = rw (w .0) (over-cat xs ys l at) in
+    (v .0 ∙ same ∙ all, record { place = omega (arith, v .1 .place, w .1 .place, length-append xs ys) })
 
 -- the bytes, said another way
 pub wrote-as : {l m : List ℕ} {at to : ℕ} {xs ys : List ℕ} → Wrote l at xs m to → xs ≡ ys → Wrote l at ys m to
@@ -62,18 +62,18 @@ wrote-as w e = rw (sym e) w
 
 -- nothing was written, past the end
 pub wrote-out : (l : List ℕ) (at : ℕ) (xs : List ℕ) {to : ℕ} → length l ≤ at → to ≡ length l → Wrote l at xs l to
-wrote-out l at xs h e = record { place = e ∙ omega arith; bytes = sym (over-out xs l at h) }
+wrote-out l at xs h e = (sym (over-out xs l at h), record { place = e ∙ omega arith })
 
 -- what follows lies past the end
 pub wrote-short : {l m : List ℕ} {at to : ℕ} {xs : List ℕ} (ys : List ℕ) → Wrote l at xs m to → length l ≤ at + length xs → Wrote l at (xs ++ ys) m to
 wrote-short {l} {m} {at} {to} {xs} ys w h =
-    let long : length m ≡ length l = ap length (w .bytes) ∙ length-over xs l at in
-    then w (wrote-out m to ys (omega (arith, w .place)) (omega (arith, w .place)))
+    let long : length m ≡ length l = ap length (w .0) ∙ length-over xs l at in
+    then w (wrote-out m to ys (omega (arith, w .1 .place)) (omega (arith, w .1 .place)))
 
 -- one byte was stored
 pub stored : (l : List ℕ) (at x : ℕ) {to : ℕ} → at < length l → to ≡ at + 1 → Wrote l at (x ∷ []) (set l at x) to
 unfolding overwrite
-stored l at x h e = record { place = omega arith; bytes = refl }
+stored l at x h e = (refl, record { place = omega arith })
 
 -- two bytes, and four
 pub stored-two : (l : List ℕ) (at a b : ℕ) → at + 2 ≤ length l → Wrote l at (a ∷ b ∷ []) (set (set l at a) (at + 1) b) (at + 2)
@@ -102,14 +102,14 @@ pub wrote-room : (src l m : List ℕ) (at n : ℕ) {to : ℕ} → n ≡ min (len
 wrote-room src l m at n e w p =
     let long : length (take n src) ≡ n = length-take-le n src (omega arith) in
     let all : take n src ++ drop n src ≡ src = take-append-drop n src in
-    let here : Wrote l at (take n src) m (min (at + length (take n src)) (length l)) = record { place = refl; bytes = w } in
+    let here : Wrote l at (take n src) m (min (at + length (take n src)) (length l)) = (w, record { place = refl }) in
     split (length l) (at + n)
-    (λ h. record { place = p; bytes = wrote-as (wrote-short (drop n src) here (omega arith)) all .bytes })
-    (λ h. let whole : take n src ≡ src = take-all n src (omega arith) in record { place = p; bytes = w ∙ rw whole })
+    (λ h. (wrote-as (wrote-short (drop n src) here (omega arith)) all .0, record { place = p }))
+    (λ h. let whole : take n src ≡ src = take-all n src (omega arith) in (w ∙ rw whole, record { place = p }))
 
 -- nothing more is written behind a write: under `unfolding flat` a run of writers is `then w1 (then w2 (.. (then wn (ended wn))))`
 pub ended : {l m : List ℕ} {at to : ℕ} {xs : List ℕ} → Wrote l at xs m to → Wrote m to [] m to
 unfolding overwrite
 ended {l} {m} {at} {xs = xs} w =
-    let long : length m ≡ length l = ap length (w .bytes) ∙ length-over xs l at in
-    record { place = omega (arith, w .place); bytes = refl }
+    let long : length m ≡ length l = ap length (w .0) ∙ length-over xs l at in
+    (refl, record { place = omega (arith, w .1 .place) })

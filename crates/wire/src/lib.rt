@@ -6,7 +6,7 @@ ghost use Prim.Native.Nat.{_-_, min};
 ghost use lib.ListN.{length, drop};
 ghost use Rattle.wire.specs.Le.{leAt, le};
 ghost use Rattle.wire.specs.Be.{beAt, be};
-ghost use Rattle.wire.specs.Over.{Wrote};
+ghost use Rattle.wire.specs.Over.{overwrite, PlaceBehind};
 ghost use Rattle.wire.specs.Part.{bytesOf};
 
 // A part of some bytes (document 01's term): where it starts in them, and how many there are.
@@ -124,7 +124,8 @@ pub fn get_u32(s: &[u8], at: usize) -> u32
 
 // Writers answer the place behind what they wrote.
 pub fn put_u8(buf: &mut [u8], at: usize, v: u8) -> usize
-    ensures { λ r. ⌜ Wrote (now (buf .entry)) at (le 1 v) (now (buf .exit)) r ⌝ }
+    ensures { λ _. ⌜ now (buf .exit) ≡ overwrite (now (buf .entry)) at (le 1 v) ⌝ }
+    ensures { λ r. ⌜ PlaceBehind (now (buf .entry)) at (le 1 v) r ⌝ }
 {
     if buf.len() <= at {
         return buf.len();
@@ -134,7 +135,8 @@ pub fn put_u8(buf: &mut [u8], at: usize, v: u8) -> usize
 }
 
 pub fn put_u16_le(buf: &mut [u8], at: usize, v: u16) -> usize
-    ensures { λ r. ⌜ Wrote (now (buf .entry)) at (le 2 v) (now (buf .exit)) r ⌝ }
+    ensures { λ _. ⌜ now (buf .exit) ≡ overwrite (now (buf .entry)) at (le 2 v) ⌝ }
+    ensures { λ r. ⌜ PlaceBehind (now (buf .entry)) at (le 2 v) r ⌝ }
 {
     if left(buf, at) < 2 {
         return put_u8(buf, at, (v % 256) as u8);
@@ -145,7 +147,8 @@ pub fn put_u16_le(buf: &mut [u8], at: usize, v: u16) -> usize
 }
 
 pub fn put_u32_le(buf: &mut [u8], at: usize, v: u32) -> usize
-    ensures { λ r. ⌜ Wrote (now (buf .entry)) at (le 4 v) (now (buf .exit)) r ⌝ }
+    ensures { λ _. ⌜ now (buf .exit) ≡ overwrite (now (buf .entry)) at (le 4 v) ⌝ }
+    ensures { λ r. ⌜ PlaceBehind (now (buf .entry)) at (le 4 v) r ⌝ }
 {
     if left(buf, at) < 4 {
         return put_halves(buf, at, v);
@@ -159,28 +162,32 @@ pub fn put_u32_le(buf: &mut [u8], at: usize, v: u32) -> usize
 
 // A number of four bytes that may run past the end.
 fn put_halves(buf: &mut [u8], at: usize, v: u32) -> usize
-    ensures { λ r. ⌜ Wrote (now (buf .entry)) at (le 4 v) (now (buf .exit)) r ⌝ }
+    ensures { λ _. ⌜ now (buf .exit) ≡ overwrite (now (buf .entry)) at (le 4 v) ⌝ }
+    ensures { λ r. ⌜ PlaceBehind (now (buf .entry)) at (le 4 v) r ⌝ }
 {
     let next = put_u16_le(buf, at, (v % 65536) as u16);
     put_u16_le(buf, next, (v / 65536) as u16)
 }
 
 pub fn put_u64_le(buf: &mut [u8], at: usize, v: u64) -> usize
-    ensures { λ r. ⌜ Wrote (now (buf .entry)) at (le 8 v) (now (buf .exit)) r ⌝ }
+    ensures { λ _. ⌜ now (buf .exit) ≡ overwrite (now (buf .entry)) at (le 8 v) ⌝ }
+    ensures { λ r. ⌜ PlaceBehind (now (buf .entry)) at (le 8 v) r ⌝ }
 {
     let next = put_u32_le(buf, at, (v % 4294967296) as u32);
     put_u32_le(buf, next, (v / 4294967296) as u32)
 }
 
 pub fn put_u16(buf: &mut [u8], at: usize, v: u16) -> usize
-    ensures { λ r. ⌜ Wrote (now (buf .entry)) at (be 2 v) (now (buf .exit)) r ⌝ }
+    ensures { λ _. ⌜ now (buf .exit) ≡ overwrite (now (buf .entry)) at (be 2 v) ⌝ }
+    ensures { λ r. ⌜ PlaceBehind (now (buf .entry)) at (be 2 v) r ⌝ }
 {
     let next = put_u8(buf, at, (v / 256) as u8);
     put_u8(buf, next, (v % 256) as u8)
 }
 
 pub fn put_u32(buf: &mut [u8], at: usize, v: u32) -> usize
-    ensures { λ r. ⌜ Wrote (now (buf .entry)) at (be 4 v) (now (buf .exit)) r ⌝ }
+    ensures { λ _. ⌜ now (buf .exit) ≡ overwrite (now (buf .entry)) at (be 4 v) ⌝ }
+    ensures { λ r. ⌜ PlaceBehind (now (buf .entry)) at (be 4 v) r ⌝ }
 {
     let next = put_u16(buf, at, (v / 65536) as u16);
     put_u16(buf, next, (v % 65536) as u16)
@@ -188,7 +195,8 @@ pub fn put_u32(buf: &mut [u8], at: usize, v: u32) -> usize
 
 // The bytes of src, copied.
 pub fn put_slice(buf: &mut [u8], at: usize, src: &[u8]) -> usize
-    ensures { λ r. ⌜ Wrote (now (buf .entry)) at (now (src .entry)) (now (buf .exit)) r ⌝ }
+    ensures { λ _. ⌜ now (buf .exit) ≡ overwrite (now (buf .entry)) at (now (src .entry)) ⌝ }
+    ensures { λ r. ⌜ PlaceBehind (now (buf .entry)) at (now (src .entry)) r ⌝ }
 {
     let room = left(buf, at);
     if room < src.len() {
@@ -200,7 +208,8 @@ pub fn put_slice(buf: &mut [u8], at: usize, src: &[u8]) -> usize
 // The first n bytes of src, copied: what lies past the end of src or of buf is left out.
 fn copy(buf: &mut [u8], at: usize, src: &[u8], n: usize) -> usize
     requires { ⌜ n ≡ min (length (now src)) (length (now buf) - at) ⌝ }
-    ensures { λ r. ⌜ Wrote (now (buf .entry)) at (now (src .entry)) (now (buf .exit)) r ⌝ }
+    ensures { λ _. ⌜ now (buf .exit) ≡ overwrite (now (buf .entry)) at (now (src .entry)) ⌝ }
+    ensures { λ r. ⌜ PlaceBehind (now (buf .entry)) at (now (src .entry)) r ⌝ }
 {
     let mut i = 0;
     while i < n {
