@@ -1,0 +1,217 @@
+//! The cases of document 01 and of its readings, held against the Rust and the script decoder
+//! without the library.
+
+use crate::answers::Part;
+use crate::answers::reply::{accepted, packet, reply};
+use crate::answers::request::{batch, descriptor, fedauth, transaction};
+use crate::hex::{hex, unhex};
+use crate::inputs::script::{SMALL, Shape, damaged, of_shape, random_script};
+use crate::protocol;
+use crate::random::Random;
+use crate::refusal::*;
+use crate::script::fit::misfits;
+use crate::script::records::*;
+use crate::utf16;
+use std::collections::BTreeSet;
+
+const COLLATION: [u8; 5] = [1, 2, 3, 4, 5];
+
+fn reply_to(digits: &str) -> Answer<String> {
+    reply(&unhex(digits)).map(|packet| hex(&packet))
+}
+
+fn reply_of(records: &[Record]) -> Answer<Vec<u8>> {
+    reply(&written(records))
+}
+
+fn spaced(digits: &str) -> String {
+    hex(&unhex(digits))
+}
+
+#[test]
+fn case_1_a_bare_set() {
+    let packet = "0401001800000100 810000 FD0000C1000000000000000000";
+    assert_eq!(reply_to("000000000100"), Ok(spaced(packet)));
+}
+
+#[test]
+fn case_2_an_int_column() {
+    let script = [set(&[]), column(3, COLLATION, b"n\0"), row(), cell(3, &[7, 0, 0, 0])];
+    let packet = "0401002900000100 8101000000000000002604016E00 D10407000000 \
+                  FD0000C1000100000000000000";
+    assert_eq!(reply_of(&script), Ok(unhex(packet)));
+    assert_eq!(unhex(packet).len(), 41);
+}
+
+#[test]
+fn case_3_two_bare_sets() {
+    let packet = "0401002800000100 810000 FD0100C1000000000000000000 \
+                  810000 FD0000C1000000000000000000";
+    assert_eq!(reply_to("000000000100 000000000100"), Ok(spaced(packet)));
+}
+
+#[test]
+fn cases_4_and_5_attention_and_transactions() {
+    let attention = unhex("0401001500000100 FD2000C1000000000000000000");
+    assert_eq!(protocol::build_attention_ack_packet()[..], attention);
+    let begin = unhex("E30B0008080100000000000000 00 FD0000C1000000000000000000");
+    assert_eq!(protocol::build_transaction_manager_response(5)[..], begin);
+    assert_eq!(begin.len(), 27);
+    let done = protocol::build_done_token(0);
+    assert_eq!(protocol::build_transaction_manager_response(6), done);
+}
+
+#[test]
+fn case_6_batches() {
+    let part = |start, length| Ok(Part { start, length });
+    assert_eq!(batch(&unhex("04000000 2000 4100 2000 7F")), part(6, 2));
+    assert_eq!(batch(&unhex("00000000")), part(0, 4));
+    assert_eq!(batch(&unhex("05000000")), Err(HEADERS_PAST_END));
+    assert_eq!(batch(&unhex("04000000 4100 3DD8 00")), Err(BATCH_NOT_UTF16));
+    assert_eq!(batch(&unhex("04000000 2000 0900 FF")), part(8, 0));
+}
+
+#[test]
+fn cases_7_to_9_transactions_descriptors_tokens() {
+    assert_eq!(transaction(&unhex("040000000500")), Ok(5));
+    assert_eq!(transaction(&unhex("0400000005")), Err(NO_REQUEST_TYPE));
+    assert_eq!(transaction(&unhex("00000000")), Ok(0));
+    assert_eq!(transaction(&unhex("0300000005")), Ok(0x0500));
+    let found = unhex("16000000 12000000 0200 0102030405060708 11121314");
+    assert_eq!(descriptor(&found), Some((0x0807_0605_0403_0201, 0x1413_1211)));
+    assert_eq!(descriptor(&[&[23], &found[1..]].concat()), None);
+    let skipped = unhex("1C000000 06000000 0200 12000000 0200 0102030405060708 11121314");
+    assert_eq!(descriptor(&skipped), Some((0x0807_0605_0403_0201, 0x1413_1211)));
+    assert_eq!(fedauth(&unhex("0400000000000000")), Ok(Part { start: 8, length: 0 }));
+}
+
+#[test]
+fn cases_10_and_11_route_and_error_reply() {
+    let route = unhex("E30C00 14 0700 00 9905 0100 6100 0000");
+    assert_eq!(protocol::build_routing_envchange_token("a", 1433)[..], route);
+    let error = protocol::build_error_response("\u{E9}");
+    assert_eq!(error[9..11], [0x00, 0x10]);
+    assert_eq!(error[17..19], [0x02, 0x00]);
+    let euros = protocol::build_error_response(&"\u{20AC}".repeat(21_846));
+    assert_eq!(euros[17..19], [0x02, 0x00]);
+}
+
+#[test]
+fn case_12_borders() {
+    let text = |units| b"e\0".repeat(units);
+    let terminal = |units| reply_of(&[set(&[]), error(TERMINAL, 1, 2, &text(units))]);
+    assert_eq!(terminal(32_748).map(|packet| packet.len()), Ok(65_534));
+    assert_eq!(terminal(32_749), Err(LONG_RESULT));
+    let named = |units| reply_of(&[set(&[]), column(1, COLLATION, &text(units))]);
+    assert!(named(255).is_ok());
+    assert_eq!(named(256), Err(LONG_NAME));
+    let columns = |count| {
+        let column = column(1, COLLATION, &[]);
+        accepted(&written(&[vec![set(&[])], vec![column; count]].concat())).unwrap()
+    };
+    assert!(misfits(&columns(128)).is_empty());
+    assert_eq!(misfits(&columns(129)), [[2, 0, 0, 128]]);
+    assert!(packet(&columns(129)).is_ok());
+}
+
+#[test]
+fn readings_of_cuts_kinds_and_shapes() {
+    for (script, number) in [
+        ("", KIND),
+        ("01", RECORD_CUT),
+        ("0000000001", RECORD_CUT),
+        ("01000000 6300", RECORD_CUT),
+        ("FFFFFFFF 0100", RECORD_CUT),
+        ("00000000 0201", KIND),
+        ("00000000 0100 00000000 0500", KIND),
+        ("00000000 0100 01000000 0400 00", SHAPE),
+    ] {
+        assert_eq!(reply_to(script), Err(number), "{script}");
+    }
+}
+
+#[test]
+fn readings_of_orders() {
+    let (leading, terminal) = (error(LEADING, 1, 2, &[]), error(TERMINAL, 1, 2, &[]));
+    let int = cell(3, &[0; 4]);
+    for wrong in [
+        vec![row(), int.clone(), chunk(&[1, 2])],
+        vec![row(), cell(9, &[]), row(), chunk(&[1, 2])],
+        vec![int],
+        vec![terminal.clone(), leading.clone()],
+        vec![leading.clone(), leading],
+        vec![terminal.clone(), terminal],
+        vec![row(), info(INFO, &[], &[], &[])],
+        vec![info(TRAILING, &[], &[], &[]), set(&[])],
+    ] {
+        assert_eq!(reply_of(&[vec![set(&[])], wrong].concat()), Err(KIND));
+    }
+}
+
+#[test]
+fn readings_of_texts_and_names() {
+    let (high, low) = (&[0x3D, 0xD8][..], &[0x00, 0xDE][..]);
+    assert_eq!(reply_of(&[set(&[]), info(INFO, high, low, &[])]), Err(RECORD_NOT_UTF16));
+    let odd = [set(&[]), row(), cell(6, &[]), chunk(&[1])];
+    assert_eq!(reply_of(&odd), Err(SHAPE));
+    assert_eq!(reply_of(&[set(&[]), row(), cell(5, &[0x3D, 0xD8, 0])]), Err(SHAPE));
+    assert!(reply_of(&[set(&[]), row(), cell(6, &[]), chunk(high)]).is_ok());
+    let pairs = |count| column(1, COLLATION, &[high, low].concat().repeat(count));
+    assert_eq!(reply_of(&[set(&[]), pairs(128)]), Err(LONG_NAME));
+    assert_eq!(reply_of(&[set(&[]), pairs(127)]).unwrap()[19], 127);
+}
+
+#[test]
+fn the_first_emitted_fault_counts_and_a_terminal_error_drops_it() {
+    let long = column(1, COLLATION, &b"n\0".repeat(256));
+    let empty = [row(), cell(9, &[]), chunk(&[])];
+    let (first, second) = ([&[set(&[])], &empty[..]].concat(), [set(&[]), long]);
+    assert_eq!(reply_of(&[&first[..], &second].concat()), Err(EMPTY_CHUNK));
+    assert_eq!(reply_of(&[&second[..], &first].concat()), Err(LONG_NAME));
+    let terminal = [set(&[]), error(TERMINAL, 1, 2, &[])];
+    assert_eq!(
+        reply_of(&[&terminal[..], &empty, &second].concat()).map(|packet| packet.len()),
+        Ok(38)
+    );
+    assert_eq!(reply_of(&[&second[..], &terminal].concat()), Err(LONG_NAME));
+}
+
+#[test]
+fn misfits_by_set_row_and_column() {
+    let int = column(3, COLLATION, &[]);
+    let of = |records: &[Record]| misfits(&accepted(&written(records)).unwrap());
+    assert_eq!(of(&[set(&[1])]), [[1, 0, 0, 0]]);
+    assert_eq!(of(&[set(&[]), row(), cell(10, &[])]), [[3, 0, 0, 0]]);
+    let rows = [set(&[]), int.clone(), int.clone(), row(), cell(10, &[]), row(), cell(7, &[])];
+    assert_eq!(of(&rows), [[3, 0, 0, 1], [3, 0, 1, 0], [3, 0, 1, 1]]);
+    let pair = column(5, COLLATION, &utf16::text_bytes("\u{1F600}"));
+    assert_eq!(of(&[set(&[]), set(&[]), int, pair]), [[2, 1, 0, 1]]);
+}
+
+#[test]
+fn scripts_that_shall_fit_do_and_damage_meets_every_refusal() {
+    let mut random = Random::new(1, "cases");
+    let mut met = BTreeSet::new();
+    for _ in 0..20_000 {
+        let script = of_shape(&mut random, Shape { fits: true, ..SMALL });
+        assert!(misfits(&accepted(&written(&script)).unwrap()).is_empty());
+        let script = random_script(&mut random);
+        met.insert(reply(&damaged(&mut random, &script)).err());
+    }
+    let scripts_own = RECORD_CUT..=LONG_NAME;
+    assert!(scripts_own.into_iter().all(|number| met.contains(&Some(number))), "{met:?}");
+}
+
+#[test]
+fn the_list_of_white_space_is_that_of_rust() {
+    let listed = |unit: u32| {
+        matches!(
+            unit,
+            0x0009..=0x000D | 0x0020 | 0x0085 | 0x00A0 | 0x1680 | 0x2000..=0x200A
+                | 0x2028 | 0x2029 | 0x202F | 0x205F | 0x3000
+        )
+    };
+    for character in '\0'..=char::MAX {
+        assert_eq!(character.is_whitespace(), listed(character.into()), "{character:?}");
+    }
+}

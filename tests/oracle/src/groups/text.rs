@@ -1,0 +1,101 @@
+//! UTF-16LE: well-formed or not, counts, white space.
+
+use super::Size;
+use crate::compare::Check;
+use crate::hex::hex;
+use crate::random::Random;
+use crate::refusal::{ARGUMENT_NOT_UTF16, Answer, ODD_ARGUMENT};
+use crate::station::{station_is_whitespace, station_text};
+use crate::utf16;
+
+/// Units, characters, length in UTF-8, and whether a surrogate pair stands in the text.
+const COUNTS: usize = 4;
+
+pub fn compare(size: Size) -> Vec<Check> {
+    vec![white_space(), texts(size)]
+}
+
+fn white_space() -> Check {
+    let mut check = Check::new("station_is_whitespace");
+    for unit in 0..=u16::MAX {
+        let blank = char::from_u32(unit.into()).is_some_and(char::is_whitespace);
+        check.number(|| format!("{unit:04X}"), Ok(blank.into()), || station_is_whitespace(unit));
+    }
+    check
+}
+
+fn texts(size: Size) -> Check {
+    let mut check = Check::new("station_text");
+    let mut random = size.random("text");
+    every_short_text(&mut check);
+    texts_of_border_units(&mut check);
+    for _ in 0..size.count(100_000, 4_000_000) {
+        compare_text(&mut check, &random_bytes(&mut random, 24));
+    }
+    for _ in 0..size.count(50, 2_000) {
+        compare_text(&mut check, &random_bytes(&mut random, 40_000));
+    }
+    check
+}
+
+/// All byte strings of up to two bytes: none, one odd byte, every unit.
+fn every_short_text(check: &mut Check) {
+    compare_text(check, &[]);
+    for first in 0..=0xFF {
+        compare_text(check, &[first]);
+        for second in 0..=0xFF {
+            compare_text(check, &[first, second]);
+        }
+    }
+}
+
+/// Every unit beside every border unit, and every three and four border units; each with an odd
+/// byte more at times.
+fn texts_of_border_units(check: &mut Check) {
+    let borders = utf16::BORDER_UNITS;
+    for unit in 0..=u16::MAX {
+        for border in borders {
+            compare_text(check, &utf16::bytes(&[unit, border]));
+            compare_text(check, &utf16::bytes(&[border, unit]));
+        }
+    }
+    for one in borders {
+        for two in borders {
+            for three in borders {
+                let bytes = utf16::bytes(&[one, two, three]);
+                compare_text(check, &bytes);
+                compare_text(check, &[&bytes[..], &[0x41]].concat());
+                for four in borders {
+                    compare_text(check, &utf16::bytes(&[one, two, three, four]));
+                }
+            }
+        }
+    }
+}
+
+fn random_bytes(random: &mut Random, most: usize) -> Vec<u8> {
+    let count = random.within(0, most);
+    let text = utf16::random_text(random, count);
+    let mut bytes = match random.below(3) {
+        0 => utf16::bytes(&utf16::spoiled(random, &text)),
+        _ => utf16::bytes(&text),
+    };
+    if random.one_in(6) {
+        bytes.push(random.byte());
+    }
+    bytes
+}
+
+fn compare_text(check: &mut Check, bytes: &[u8]) {
+    check.slots(|| hex(bytes), &counts(bytes), COUNTS, |out| station_text(bytes, out));
+}
+
+fn counts(bytes: &[u8]) -> Answer<(i64, Vec<u64>)> {
+    if !bytes.len().is_multiple_of(2) {
+        return Err(ODD_ARGUMENT);
+    }
+    let text = utf16::text(bytes).ok_or(ARGUMENT_NOT_UTF16)?;
+    let pair = text.chars().any(|character| character.len_utf16() == 2);
+    let counts = [text.encode_utf16().count(), text.chars().count(), text.len(), pair.into()];
+    Ok((0, counts.map(|count| count as u64).to_vec()))
+}
