@@ -1,1 +1,9 @@
 pub mod Examples
+pub mod CodeNumbers
+pub mod CodeReads
+pub mod CodeTypes
+pub mod CodeSigns
+pub mod CodeChunks
+pub mod CodeTokens
+pub mod CodePositions
+pub mod CodeSteps

@@ -4,3 +4,4 @@ pub mod Tokens
 pub mod Positions
 pub mod Reader
 pub mod Meaning
+pub mod Code
