@@ -4,7 +4,10 @@ use mathlib.Core.Path.{_≡_, refl, sym, ap, _∙_}
 use mathlib.Core.List.{List, [], _∷_}
 use native.Mathlib.Omega.{arith}
 use borrow.Author.Tests.{ne-eqb}
+use Rattle.text.specs.Units.{unitsOf}
+use Rattle.text.specs.Surrogates.{paired, surrogates, wellFormed}
 use Rattle.response.specs.Answer.{firstOf}
+use Rattle.response.specs.Arguments.{textFault}
 
 pub found : {n a : ℕ} (rest : List ℕ) → n ≡ a → (n ≡ 0 → ⊥) → n ≡ firstOf (a ∷ rest)
 unfolding firstOf
@@ -26,3 +29,9 @@ unfolding firstOf
 pair zero zero rest = refl
 pair zero (suc b) rest = let e = ne-eqb (suc b) 0 (λ q. omega arith) in simp (e, e)
 pair (suc a) b rest = let e = ne-eqb (suc a) 0 (λ q. omega arith) in simp (e, e)
+
+-- no text refuses nothing
+pub no-more : (a : ℕ) → firstOf (a ∷ textFault [] ∷ []) ≡ a
+unfolding firstOf textFault wellFormed surrogates paired unitsOf
+no-more zero = refl
+no-more (suc a) = simp (ne-eqb (suc a) 0 (λ q. omega arith))

@@ -1,6 +1,15 @@
 // What refuses a reply before a byte is written: text arguments, record lists, sizes.
+use crate::BUFFER_TOO_SHORT;
+use crate::DATABASE_ROUTE;
+use crate::FEATURE;
 use crate::ListKind;
 use crate::Measured;
+use crate::NAME_TOO_LONG;
+use crate::NONE;
+use crate::NOT_UTF16;
+use crate::ODD_TEXT;
+use crate::PLAIN_ROUTE;
+use crate::REPLY_TOO_LONG;
 use crate::put::LOGIN_ACK;
 use crate::put::NO_ACK;
 use script::Found;
@@ -17,19 +26,6 @@ ghost use Rattle.response.specs.Login.{loginAck, fedauthInfo};
 ghost use Rattle.response.specs.Lists.{routeFault, featureFault, itemFault, listFault};
 ghost use Rattle.response.specs.Sizes.{itemSize, Same, Measures};
 ghost use Rattle.response.specs.Replies.{routingAck};
-
-// Refusals, by number. 0 stands for none.
-pub const NONE: u8 = 0;
-// An info's server or procedure name over 255 units.
-pub const NAME_TOO_LONG: u8 = 16;
-// The packet, or the bare tokens, are over 65,535 bytes.
-pub const REPLY_TOO_LONG: u8 = 17;
-// The lent buffer is too short.
-pub const BUFFER_TOO_SHORT: u8 = 20;
-// A text argument of an odd number of bytes.
-pub const ODD_TEXT: u8 = 21;
-// A text argument that is not UTF-16.
-pub const NOT_UTF16: u8 = 22;
 
 const MOST_BYTES: usize = 65535;
 
@@ -110,13 +106,6 @@ pub(crate) fn info_fault(message: &[u8], server: &[u8], procedure: &[u8]) -> u8
     names_fault(server, procedure)
 }
 
-// The kinds of records in lists.
-pub const PLAIN_ROUTE: u16 = 0x0011;
-
-pub const DATABASE_ROUTE: u16 = 0x0012;
-
-pub const FEATURE: u16 = 0x0013;
-
 // The refusal of a record in a list of routes, or none.
 fn route_fault(kind: u16, p: &[u8]) -> u8
     ensures { λ r. ⌜ r ≡ routeFault kind (now (p .entry)) ⌝ }
@@ -162,12 +151,12 @@ fn item_fault(of: ListKind, kind: u16, p: &[u8]) -> u8
 }
 
 // The sizes of routes without their texts.
-pub(crate) const PLAIN_ROUTE_SIZE: usize = 13;
+const PLAIN_ROUTE_SIZE: usize = 13;
 
-pub(crate) const DATABASE_ROUTE_SIZE: usize = 15;
+const DATABASE_ROUTE_SIZE: usize = 15;
 
 // How many bytes a record of a list becomes, as far as they count.
-fn item_size(kind: u16, host: &[u8], p: &[u8]) -> usize
+pub(crate) fn item_size(kind: u16, host: &[u8], p: &[u8]) -> usize
     ensures { λ r. ⌜ Same r (itemSize (now (host .entry)) kind (now (p .entry))) × (r ≤ 131087) ⌝ }
 {
     if kind == PLAIN_ROUTE {

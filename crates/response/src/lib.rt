@@ -6,15 +6,16 @@ mod put;
 
 ghost use mathlib.Core.Path.{_≡_};
 ghost use mathlib.Core.Bool.{false};
+ghost use mathlib.Core.List.{[], _∷_};
 ghost use Rattle.script.specs.Records.{records};
-ghost use Rattle.response.specs.Answer.{reply, builtOf, bufferOf};
+ghost use Rattle.response.specs.Answer.{reply, firstOf, builtOf, bufferOf};
+ghost use Rattle.response.specs.Arguments.{textFault};
+ghost use Rattle.response.specs.Lists.{itemBytes};
 ghost use Rattle.response.specs.Replies.{preloginReply, fedauthAckReply, classificationAckReply, featuresReply, routingAckReply, challengeReply, fedauthInfoReply, loginAckReply, doneReply, attentionReply, transactionReply, infoReply, errorTokensReply, errorReply, routeReply, databaseRouteReply, routingLoginReply, routingReply};
-use faults::DATABASE_ROUTE_SIZE;
-use faults::NONE;
-use faults::PLAIN_ROUTE_SIZE;
 use faults::capped;
 use faults::fedauth_info_size;
 use faults::info_fault;
+use faults::item_size;
 use faults::login_size;
 use faults::measure;
 use faults::measure_routes;
@@ -25,11 +26,10 @@ use packet::PACKET_HEADER_SIZE;
 use packet::write_reply_header;
 use put::LOGIN_ACK;
 use put::NO_ACK;
-use put::put_database_route;
 use put::put_error;
 use put::put_feature_ext_ack;
 use put::put_fedauth_info;
-use put::put_plain_route;
+use put::put_item;
 use put::put_routing_tokens;
 
 // What a builder answers: how many bytes it wrote, or a refusal, which leaves the buffer.
@@ -37,6 +37,26 @@ pub enum Built {
     Written(usize),
     Refused(u8),
 }
+
+// Refusals that the caller causes; those of a list's records are script's. 0 stands for none.
+const NONE: u8 = 0;
+// An info's server or procedure name over 255 units.
+pub const NAME_TOO_LONG: u8 = 16;
+// The packet, or the bare tokens, are over 65,535 bytes.
+pub const REPLY_TOO_LONG: u8 = 17;
+// The lent buffer is too short.
+pub const BUFFER_TOO_SHORT: u8 = 20;
+// A text argument of an odd number of bytes.
+pub const ODD_TEXT: u8 = 21;
+// A text argument that is not UTF-16.
+pub const NOT_UTF16: u8 = 22;
+
+// The kinds of records in lists: routes, and features that are acknowledged.
+pub const PLAIN_ROUTE: u16 = 0x0011;
+
+pub const DATABASE_ROUTE: u16 = 0x0012;
+
+pub const FEATURE: u16 = 0x0013;
 
 // The record lists, by what they hold.
 enum ListKind {
@@ -101,133 +121,21 @@ pub fn build_prelogin_response_with_fedauth(
 }
 
 // PRELOGIN: the packet header; the directory of VERSION, ENCRYPTION and FEDAUTHREQUIRED; their data.
-const PRELOGIN: [u8; 26] = [
-    0x04,
-    0x01,
-    0,
-    26,
-    0,
-    0,
-    1,
-    0,
-    0x00,
-    0,
-    11,
-    0,
-    6,
-    0x01,
-    0,
-    17,
-    0,
-    1,
-    0xFF,
-    16,
-    0,
-    0,
-    0,
-    0,
-    0,
-    0x02,
-];
+const PRELOGIN: [u8; 26] = *b"\x04\x01\x00\x1A\x00\x00\x01\x00\
+    \x00\x00\x0B\x00\x06\x01\x00\x11\x00\x01\xFF\
+    \x10\x00\x00\x00\x00\x00\x02";
 
-const PRELOGIN_ENCRYPTED: [u8; 26] = [
-    0x04,
-    0x01,
-    0,
-    26,
-    0,
-    0,
-    1,
-    0,
-    0x00,
-    0,
-    11,
-    0,
-    6,
-    0x01,
-    0,
-    17,
-    0,
-    1,
-    0xFF,
-    16,
-    0,
-    0,
-    0,
-    0,
-    0,
-    0x01,
-];
+const PRELOGIN_ENCRYPTED: [u8; 26] = *b"\x04\x01\x00\x1A\x00\x00\x01\x00\
+    \x00\x00\x0B\x00\x06\x01\x00\x11\x00\x01\xFF\
+    \x10\x00\x00\x00\x00\x00\x01";
 
-const PRELOGIN_FEDAUTH: [u8; 32] = [
-    0x04,
-    0x01,
-    0,
-    32,
-    0,
-    0,
-    1,
-    0,
-    0x00,
-    0,
-    16,
-    0,
-    6,
-    0x01,
-    0,
-    22,
-    0,
-    1,
-    0x06,
-    0,
-    23,
-    0,
-    1,
-    0xFF,
-    16,
-    0,
-    0,
-    0,
-    0,
-    0,
-    0x02,
-    0x01,
-];
+const PRELOGIN_FEDAUTH: [u8; 32] = *b"\x04\x01\x00\x20\x00\x00\x01\x00\
+    \x00\x00\x10\x00\x06\x01\x00\x16\x00\x01\x06\x00\x17\x00\x01\xFF\
+    \x10\x00\x00\x00\x00\x00\x02\x01";
 
-const PRELOGIN_ENCRYPTED_FEDAUTH: [u8; 32] = [
-    0x04,
-    0x01,
-    0,
-    32,
-    0,
-    0,
-    1,
-    0,
-    0x00,
-    0,
-    16,
-    0,
-    6,
-    0x01,
-    0,
-    22,
-    0,
-    1,
-    0x06,
-    0,
-    23,
-    0,
-    1,
-    0xFF,
-    16,
-    0,
-    0,
-    0,
-    0,
-    0,
-    0x01,
-    0x01,
-];
+const PRELOGIN_ENCRYPTED_FEDAUTH: [u8; 32] = *b"\x04\x01\x00\x20\x00\x00\x01\x00\
+    \x00\x00\x10\x00\x06\x01\x00\x16\x00\x01\x06\x00\x17\x00\x01\xFF\
+    \x10\x00\x00\x00\x00\x00\x01\x01";
 
 pub fn build_prelogin_response_with_options(
     supports_encryption: bool,
@@ -250,7 +158,7 @@ pub fn build_prelogin_response_with_options(
 }
 
 // FEATUREEXTACK of FEDAUTH, without data.
-const FEDAUTH_ACK: [u8; 7] = [0xAE, 0x02, 0, 0, 0, 0, 0xFF];
+const FEDAUTH_ACK: [u8; 7] = *b"\xAE\x02\x00\x00\x00\x00\xFF";
 
 pub fn build_feature_ext_ack_fedauth(buf: &mut [u8]) -> Built
     ensures { λ r. ⌜ r ≡ builtOf fedauthAckReply (now (buf .entry)) ⌝ }
@@ -349,29 +257,8 @@ pub fn build_done_token(row_count: u64, buf: &mut [u8]) -> Built
 }
 
 // The packet that answers an attention: a DONE of status DONE_ATTN.
-const ATTENTION_ACK: [u8; 21] = [
-    0x04,
-    0x01,
-    0,
-    21,
-    0,
-    0,
-    1,
-    0,
-    0xFD,
-    0x20,
-    0,
-    0xC1,
-    0,
-    0,
-    0,
-    0,
-    0,
-    0,
-    0,
-    0,
-    0,
-];
+const ATTENTION_ACK: [u8; 21] = *b"\x04\x01\x00\x15\x00\x00\x01\x00\
+    \xFD\x20\x00\xC1\x00\x00\x00\x00\x00\x00\x00\x00\x00";
 
 pub fn build_attention_ack_packet(buf: &mut [u8]) -> Built
     ensures { λ r. ⌜ r ≡ builtOf attentionReply (now (buf .entry)) ⌝ }
@@ -388,95 +275,14 @@ pub const TM_COMMIT_XACT: u16 = 7;
 
 pub const TM_ROLLBACK_XACT: u16 = 8;
 
-const BEGUN: [u8; 27] = [
-    0xE3,
-    11,
-    0,
-    8,
-    8,
-    1,
-    0,
-    0,
-    0,
-    0,
-    0,
-    0,
-    0,
-    0,
-    0xFD,
-    0,
-    0,
-    0xC1,
-    0,
-    0,
-    0,
-    0,
-    0,
-    0,
-    0,
-    0,
-    0,
-];
+const BEGUN: [u8; 27] = *b"\xE3\x0B\x00\x08\x08\x01\x00\x00\x00\x00\x00\x00\x00\x00\
+    \xFD\x00\x00\xC1\x00\x00\x00\x00\x00\x00\x00\x00\x00";
 
-const COMMITTED: [u8; 27] = [
-    0xE3,
-    11,
-    0,
-    9,
-    0,
-    8,
-    1,
-    0,
-    0,
-    0,
-    0,
-    0,
-    0,
-    0,
-    0xFD,
-    0,
-    0,
-    0xC1,
-    0,
-    0,
-    0,
-    0,
-    0,
-    0,
-    0,
-    0,
-    0,
-];
+const COMMITTED: [u8; 27] = *b"\xE3\x0B\x00\x09\x00\x08\x01\x00\x00\x00\x00\x00\x00\x00\
+    \xFD\x00\x00\xC1\x00\x00\x00\x00\x00\x00\x00\x00\x00";
 
-const ROLLED_BACK: [u8; 27] = [
-    0xE3,
-    11,
-    0,
-    10,
-    0,
-    8,
-    1,
-    0,
-    0,
-    0,
-    0,
-    0,
-    0,
-    0,
-    0xFD,
-    0,
-    0,
-    0xC1,
-    0,
-    0,
-    0,
-    0,
-    0,
-    0,
-    0,
-    0,
-    0,
-];
+const ROLLED_BACK: [u8; 27] = *b"\xE3\x0B\x00\x0A\x00\x08\x01\x00\x00\x00\x00\x00\x00\x00\
+    \xFD\x00\x00\xC1\x00\x00\x00\x00\x00\x00\x00\x00\x00";
 
 pub fn build_transaction_manager_response(request_type: u16, buf: &mut [u8]) -> Built
     ensures { λ r. ⌜ r ≡ builtOf (transactionReply «request_type») (now (buf .entry)) ⌝ }
@@ -594,7 +400,19 @@ pub fn build_error_response(message: &[u8], buf: &mut [u8]) -> Built
     Built::Written(token::put_done(buf, b, DONE_FINAL, 0))
 }
 
-// A plain route.
+// ENVCHANGE of a route by its kind; a plain one has no database.
+fn route_token(kind: u16, host: &[u8], port: u16, database: &[u8], buf: &mut [u8]) -> Built
+    ensures { λ r. ⌜ r ≡ builtOf (reply (firstOf (textFault (now (host .entry)) ∷ textFault (now (database .entry)) ∷ [])) (itemBytes (now (host .entry)) port kind (now (database .entry)))) (now (buf .entry)) ⌝ }
+    ensures { λ _. ⌜ now (buf .exit) ≡ bufferOf (reply (firstOf (textFault (now (host .entry)) ∷ textFault (now (database .entry)) ∷ [])) (itemBytes (now (host .entry)) port kind (now (database .entry)))) (now (buf .entry)) ⌝ }
+{
+    let fault = texts_fault(host, database);
+    let found = refusal(fault, item_size(kind, host, database), buf.len());
+    if found != NONE {
+        return Built::Refused(found);
+    }
+    Built::Written(put_item(buf, 0, kind, database, host, port))
+}
+
 pub fn build_routing_envchange_token(
     redirect_host: &[u8],
     redirect_port: u16,
@@ -603,16 +421,11 @@ pub fn build_routing_envchange_token(
     ensures { λ r. ⌜ r ≡ builtOf (routeReply (now («redirect_host» .entry)) «redirect_port») (now (buf .entry)) ⌝ }
     ensures { λ _. ⌜ now (buf .exit) ≡ bufferOf (routeReply (now («redirect_host» .entry)) «redirect_port») (now (buf .entry)) ⌝ }
 {
-    let size = PLAIN_ROUTE_SIZE + capped(redirect_host.len());
-    let found = refusal(text_fault(redirect_host), size, buf.len());
-    if found != NONE {
-        return Built::Refused(found);
-    }
-    Built::Written(put_plain_route(buf, 0, redirect_host, redirect_port))
+    route_token(PLAIN_ROUTE, redirect_host, redirect_port, b"", buf)
 }
 
 // A list of one plain route.
-const ONE_PLAIN_ROUTE: [u8; 6] = [0, 0, 0, 0, 0x11, 0];
+const ONE_PLAIN_ROUTE: [u8; 6] = *b"\x00\x00\x00\x00\x11\x00";
 
 // The packet of a login that is routed by one plain route.
 pub fn build_routing_response(redirect_host: &[u8], redirect_port: u16, buf: &mut [u8]) -> Built
@@ -630,7 +443,6 @@ pub fn build_routing_response(redirect_host: &[u8], redirect_port: u16, buf: &mu
     )
 }
 
-// A route to a database.
 pub fn build_enhanced_routing_envchange_token(
     redirect_host: &[u8],
     redirect_port: u16,
@@ -640,12 +452,7 @@ pub fn build_enhanced_routing_envchange_token(
     ensures { λ r. ⌜ r ≡ builtOf (databaseRouteReply (now («redirect_host» .entry)) «redirect_port» (now (database .entry))) (now (buf .entry)) ⌝ }
     ensures { λ _. ⌜ now (buf .exit) ≡ bufferOf (databaseRouteReply (now («redirect_host» .entry)) «redirect_port» (now (database .entry))) (now (buf .entry)) ⌝ }
 {
-    let size = DATABASE_ROUTE_SIZE + capped(redirect_host.len()) + capped(database.len());
-    let found = refusal(texts_fault(redirect_host, database), size, buf.len());
-    if found != NONE {
-        return Built::Refused(found);
-    }
-    Built::Written(put_database_route(buf, 0, redirect_host, redirect_port, database))
+    route_token(DATABASE_ROUTE, redirect_host, redirect_port, database, buf)
 }
 
 // The packet of a login that is routed: the login's acknowledgement, the routes, DONE; and before or behind the routes an

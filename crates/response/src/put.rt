@@ -1,7 +1,7 @@
 // Writers: each puts its bytes at a place of the lent buffer and answers the place behind them; what lies past the
 // buffer's end is not written.
-use crate::faults::DATABASE_ROUTE;
-use crate::faults::PLAIN_ROUTE;
+use crate::DATABASE_ROUTE;
+use crate::PLAIN_ROUTE;
 use script::Found;
 ghost use mathlib.Core.Path.{_≡_};
 ghost use mathlib.Core.Bool.{cond};
@@ -71,7 +71,7 @@ fn put_target(buf: &mut [u8], at: usize, host: &[u8], port: u16) -> usize
     put_text(buf, b, (host.len() / 2 % 65536) as u16, host)
 }
 
-pub(crate) fn put_plain_route(buf: &mut [u8], at: usize, host: &[u8], port: u16) -> usize
+fn put_plain_route(buf: &mut [u8], at: usize, host: &[u8], port: u16) -> usize
     ensures { λ r. ⌜ Wrote (now (buf .entry)) at (flat (plainRoute (now (host .entry)) port)) (now (buf .exit)) r ⌝ }
 {
     let size = 5 + host.len() % 65536;
@@ -80,13 +80,7 @@ pub(crate) fn put_plain_route(buf: &mut [u8], at: usize, host: &[u8], port: u16)
     wire::put_u16_le(buf, b, 0)
 }
 
-pub(crate) fn put_database_route(
-    buf: &mut [u8],
-    at: usize,
-    host: &[u8],
-    port: u16,
-    database: &[u8],
-) -> usize
+fn put_database_route(buf: &mut [u8], at: usize, host: &[u8], port: u16, database: &[u8]) -> usize
     ensures { λ r. ⌜ Wrote (now (buf .entry)) at (flat (databaseRoute (now (host .entry)) port (now (database .entry)))) (now (buf .exit)) r ⌝ }
 {
     let size = 7 + host.len() % 65536 + database.len() % 65536;
@@ -106,7 +100,14 @@ fn put_feature(buf: &mut [u8], at: usize, p: &[u8]) -> usize
 }
 
 // A record of a list: a route to a host and port, or a feature, which has neither.
-fn put_item(buf: &mut [u8], at: usize, kind: u16, p: &[u8], host: &[u8], port: u16) -> usize
+pub(crate) fn put_item(
+    buf: &mut [u8],
+    at: usize,
+    kind: u16,
+    p: &[u8],
+    host: &[u8],
+    port: u16,
+) -> usize
     ensures { λ r. ⌜ Wrote (now (buf .entry)) at (itemBytes (now (host .entry)) port kind (now (p .entry))) (now (buf .exit)) r ⌝ }
 {
     if kind == PLAIN_ROUTE {
@@ -119,7 +120,7 @@ fn put_item(buf: &mut [u8], at: usize, kind: u16, p: &[u8], host: &[u8], port: u
 }
 
 // The records of a list that no refusal met.
-pub(crate) fn put_list(buf: &mut [u8], at: usize, list: &[u8], host: &[u8], port: u16) -> usize
+fn put_list(buf: &mut [u8], at: usize, list: &[u8], host: &[u8], port: u16) -> usize
     ensures { λ r. ⌜ Wrote (now (buf .entry)) at (listBytes (now (host .entry)) port (records (now (list .entry)))) (now (buf .exit)) r ⌝ }
 {
     let mut place = put_nothing(buf, at);
@@ -193,7 +194,7 @@ fn put_error_head(buf: &mut [u8], at: usize, size: u16) -> usize
 }
 
 // No server and procedure names, line 1.
-const NO_NAMES_LINE_1: [u8; 6] = [0, 0, 1, 0, 0, 0];
+const NO_NAMES_LINE_1: [u8; 6] = *b"\x00\x00\x01\x00\x00\x00";
 
 // The error reply's ERROR. Its text's count is that of its bytes as UTF-8, as the Rust writes it.
 pub(crate) fn put_error(buf: &mut [u8], at: usize, text: &[u8]) -> usize
@@ -207,98 +208,11 @@ pub(crate) fn put_error(buf: &mut [u8], at: usize, text: &[u8]) -> usize
 }
 
 // LOGINACK and the ENVCHANGEs of collation, database and packet size.
-pub(crate) const LOGIN_ACK: [u8; 90] = [
-    0xAD,
-    36,
-    0,
-    0x01,
-    0x74,
-    0x00,
-    0x00,
-    0x04,
-    13,
-    0x4D,
-    0,
-    0x6F,
-    0,
-    0x63,
-    0,
-    0x6B,
-    0,
-    0x54,
-    0,
-    0x64,
-    0,
-    0x73,
-    0,
-    0x53,
-    0,
-    0x65,
-    0,
-    0x72,
-    0,
-    0x76,
-    0,
-    0x65,
-    0,
-    0x72,
-    0,
-    16,
-    0,
-    0,
-    0,
-    0xE3,
-    8,
-    0,
-    7,
-    5,
-    0,
-    0,
-    4,
-    9,
-    0xD0,
-    0,
-    0xE3,
-    15,
-    0,
-    1,
-    6,
-    0x6D,
-    0,
-    0x61,
-    0,
-    0x73,
-    0,
-    0x74,
-    0,
-    0x65,
-    0,
-    0x72,
-    0,
-    0,
-    0xE3,
-    19,
-    0,
-    4,
-    4,
-    0x34,
-    0,
-    0x30,
-    0,
-    0x39,
-    0,
-    0x36,
-    0,
-    4,
-    0x34,
-    0,
-    0x30,
-    0,
-    0x39,
-    0,
-    0x36,
-    0,
-];
+pub(crate) const LOGIN_ACK: [u8; 90] =
+    *b"\xAD\x24\x00\x01\x74\x00\x00\x04\x0DM\0o\0c\0k\0T\0d\0s\0S\0e\0r\0v\0e\0r\0\x10\x00\x00\x00\
+    \xE3\x08\x00\x07\x05\x00\x00\x04\x09\xD0\x00\
+    \xE3\x0F\x00\x01\x06m\0a\0s\0t\0e\0r\0\x00\
+    \xE3\x13\x00\x04\x044\00\09\06\0\x044\00\09\06\0";
 
 // The login's acknowledgement, where it is sent.
 fn put_login_ack(buf: &mut [u8], at: usize, sent: bool) -> usize

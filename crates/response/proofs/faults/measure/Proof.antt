@@ -1,15 +1,13 @@
--- `response::faults::measure` meets its contract. Assumes nothing.
-use mathlib.Core.List.{List}
-use Rattle.script.specs.declared.Found.the-variants.{Record}
-use Rattle.script.specs.Records.{recordAt}
-use Rattle.script.proofs.Walk as Walk
+-- `response::faults::measure` meets its contract. The loop's invariant: the place is in the list, and what is left from it on
+-- refuses as the whole list does and has the size that the whole has more than the size so far, as far as it counts.
+-- Assumes nothing.
+use Rattle.script.proofs.Walk.{lies}
 use Rattle.response.proofs.Measuring.{Measuring, measured-cut, measured-end, measured-bad, measured-next}
-use Prim.Native.Nat.{ℕ, _+_, _-_, _≤_}
-use mathlib.Core.Path.{_≡_, refl, sym, _∙_}
+use Prim.Native.Nat.{_-_, _≤_}
+use mathlib.Core.Path.{refl, sym, _∙_}
 use lib.ListN.{length}
 use native.Mathlib.Omega.{arith}
 use borrow.Author.Needs.{needs}
-use denote.Ref.{now}
 use Rattle.response.proofs.faults.measure.Statement.{statement}
 use Rattle.response.proofs.faults.measure.Tie as tie
 
@@ -18,26 +16,6 @@ Inv-loop of list host at₀ size₀ at size = (at ≤ length list) × (size ≤ 
 
 abbrev μ-loop : tie.MeasureT-loop
 μ-loop of list host at₀ size₀ at size = length list - at
-
--- the record at the place, and where it lies
-module _ (c : tie.After-kind Inv-loop μ-loop) where
-  abbrev s : List ℕ
-  s = now (c .before .before .before .before .before .before .args .list)
-
-  abbrev place : ℕ
-  place = c .before .before .before .loop .at
-
-  abbrev start : ℕ
-  start = c .kind .given .0 .1 .0
-
-  abbrev len : ℕ
-  len = c .kind .given .0 .1 .1 .0
-
-  found : recordAt s place ≡ Record (c .kind .given .0 .0) start len
-  found = sym (c .before .before .record-at .ensures) ∙ c .kind .given .1
-
-  lies : (start ≡ place + 6) × (start + len ≤ length s)
-  lies = Walk.lies s place found
 
 loop-holds : tie.Need-loop-holds Inv-loop μ-loop
 loop-holds c = (search needs, search needs, record { fault = refl; long = λ port. omega arith })
@@ -63,23 +41,23 @@ enum-known-kind : tie.Need-enum-known-kind Inv-loop μ-loop
 enum-known-kind c = search needs
 
 add-next : tie.Need-add-next Inv-loop μ-loop
-add-next c = omega (arith, lies (c .before))
+add-next c = let r = c .before in omega (arith, lies _ _ (sym (r .before .before .record-at .ensures) ∙ r .kind .given .1))
 
 sub-payload : tie.Need-sub-payload Inv-loop μ-loop
 sub-payload c = search needs
 
 part-payload-start : tie.Need-part-payload-start Inv-loop μ-loop
-part-payload-start c = omega (arith, lies (c .before))
+part-payload-start c = let r = c .before in omega (arith, lies _ _ (sym (r .before .before .record-at .ensures) ∙ r .kind .given .1))
 
 part-payload-end : tie.Need-part-payload-end Inv-loop μ-loop
-part-payload-end c = omega (arith, lies (c .before))
+part-payload-end c = let r = c .before in omega (arith, lies _ _ (sym (r .before .before .record-at .ensures) ∙ r .kind .given .1))
 
 item-fault-requires : tie.Need-item-fault-requires Inv-loop μ-loop
 item-fault-requires c κs = search needs
 
 returns-3 : tie.Need-returns-3 Inv-loop μ-loop
 returns-3 c = let r = c .before .before .before .before in
-    measured-bad _ _ (s r) (place r) _ (r .before .before .before .loop .inv .2) _ (start r) (len r) _ (found r) (c .before .item-fault .ensures) (c .if1 .taken)
+    measured-bad _ _ _ _ _ (r .before .before .before .loop .inv .2) _ _ _ _ (sym (r .before .before .record-at .ensures) ∙ r .kind .given .1) (c .before .item-fault .ensures) (c .if1 .taken)
 
 item-size-requires : tie.Need-item-size-requires Inv-loop μ-loop
 item-size-requires c κs = search needs
@@ -91,12 +69,13 @@ capped-requires : tie.Need-capped-requires Inv-loop μ-loop
 capped-requires c κs = search needs
 
 loop-less : tie.Need-loop-less Inv-loop μ-loop
-loop-less c = omega (arith, lies (c .before .before .before .before .before .before))
+loop-less c = let r = c .before .before .before .before .before .before in omega (arith, lies _ _ (sym (r .before .before .record-at .ensures) ∙ r .kind .given .1))
 
 loop-again : tie.Need-loop-again Inv-loop μ-loop
 loop-again c = let t = c .before .before in
     let r = t .before .before .before .before in
-    (lies r .1, search needs, measured-next _ _ (s r) (place r) _ (r .before .before .before .loop .inv .2) _ (start r) (len r) _ (found r) (t .before .item-fault .ensures) (c .before .item-size .result) (t .if1 .left) (c .before .item-size .ensures .0) (c .capped .ensures))
+    let e = sym (r .before .before .record-at .ensures) ∙ r .kind .given .1 in
+    (lies _ _ e .1, search needs, measured-next _ _ _ _ _ (r .before .before .before .loop .inv .2) _ _ _ _ e (t .before .item-fault .ensures) (c .before .item-size .result) (t .if1 .left) (c .before .item-size .ensures .0) (c .capped .ensures))
 
 pub measure-spec : {M : Type 1} → statement M
 measure-spec =

@@ -1,15 +1,12 @@
--- `response::put::put_list` meets its contract. Assumes nothing.
-use mathlib.Core.List.{List}
-use Rattle.script.specs.declared.Found.the-variants.{Record}
-use Rattle.script.specs.Records.{recordAt}
-use Rattle.script.proofs.Walk as Walk
+-- `response::put::put_list` meets its contract. The loop's invariant: the place is in the list, and whoever writes what is left
+-- from it on, behind what is written, has written the whole. Assumes nothing.
+use Rattle.script.proofs.Walk.{lies}
 use Rattle.response.proofs.Putting.{Putting, putting-start, putting-cut, putting-end, putting-next}
-use Prim.Native.Nat.{ℕ, _+_, _-_, _≤_}
-use mathlib.Core.Path.{_≡_, sym, _∙_}
+use Prim.Native.Nat.{_-_, _≤_}
+use mathlib.Core.Path.{sym, _∙_}
 use lib.ListN.{length}
 use native.Mathlib.Omega.{arith}
 use borrow.Author.Needs.{needs}
-use denote.Ref.{now}
 use Rattle.response.proofs.put.put_list.Statement.{statement}
 use Rattle.response.proofs.put.put_list.Tie as tie
 
@@ -18,26 +15,6 @@ Inv-loop buf₀ at list host port place₀ from₀ buf place from = (from ≤ le
 
 abbrev μ-loop : tie.MeasureT-loop
 μ-loop buf₀ at list host port place₀ from₀ buf place from = length list - from
-
--- the record at the place, and where it lies
-module _ (c : tie.After-kind Inv-loop μ-loop) where
-  abbrev s : List ℕ
-  s = now (c .before .before .before .before .before .before .before .before .before .args .list)
-
-  abbrev place : ℕ
-  place = c .before .before .before .loop .from
-
-  abbrev start : ℕ
-  start = c .kind .given .0 .1 .0
-
-  abbrev len : ℕ
-  len = c .kind .given .0 .1 .1 .0
-
-  found : recordAt s place ≡ Record (c .kind .given .0 .0) start len
-  found = sym (c .before .before .record-at .ensures) ∙ c .kind .given .1
-
-  lies : (start ≡ place + 6) × (start + len ≤ length s)
-  lies = Walk.lies s place found
 
 put-nothing-requires : tie.Need-put-nothing-requires Inv-loop μ-loop
 put-nothing-requires c κs = search needs
@@ -70,27 +47,27 @@ enum-known-kind : tie.Need-enum-known-kind Inv-loop μ-loop
 enum-known-kind c = search needs
 
 add-next : tie.Need-add-next Inv-loop μ-loop
-add-next c = omega (arith, lies (c .before))
+add-next c = let r = c .before in omega (arith, lies _ _ (sym (r .before .before .record-at .ensures) ∙ r .kind .given .1))
 
 sub-payload : tie.Need-sub-payload Inv-loop μ-loop
 sub-payload c = search needs
 
 part-payload-start : tie.Need-part-payload-start Inv-loop μ-loop
-part-payload-start c = omega (arith, lies (c .before))
+part-payload-start c = let r = c .before in omega (arith, lies _ _ (sym (r .before .before .record-at .ensures) ∙ r .kind .given .1))
 
 part-payload-end : tie.Need-part-payload-end Inv-loop μ-loop
-part-payload-end c = omega (arith, lies (c .before))
+part-payload-end c = let r = c .before in omega (arith, lies _ _ (sym (r .before .before .record-at .ensures) ∙ r .kind .given .1))
 
 put-item-requires : tie.Need-put-item-requires Inv-loop μ-loop
 put-item-requires c κs = search needs
 
 loop-less : tie.Need-loop-less Inv-loop μ-loop
-loop-less c = omega (arith, lies (c .before .before .before .before .before .before))
+loop-less c = let r = c .before .before .before .before .before .before in omega (arith, lies _ _ (sym (r .before .before .record-at .ensures) ∙ r .kind .given .1))
 
 loop-again : tie.Need-loop-again Inv-loop μ-loop
 loop-again c = let t = c .before .before in
     let r = t .before .before .before .before in
-    (lies r .1, putting-next _ _ (s r) _ _ (place r) _ _ (r .before .before .before .loop .inv .1) _ (start r) (len r) (found r) (t .put-item .ensures))
+    let e = sym (r .before .before .record-at .ensures) ∙ r .kind .given .1 in (lies _ _ e .1, putting-next _ _ _ _ _ _ _ _ (r .before .before .before .loop .inv .1) _ _ _ e (t .put-item .ensures))
 
 pub put-list-spec : {M : Type 1} → statement M
 put-list-spec =
