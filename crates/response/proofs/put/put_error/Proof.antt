@@ -2,10 +2,11 @@
 use Rattle.response.proofs.Writing.{low-be, counted-low}
 use Rattle.wire.specs.Fields.{word, raw, flat}
 use native.Mathlib.Omega.{arith}
-use mathlib.Core.Path.{_≡_}
+use mathlib.Core.Path.{_≡_, ap}
 use denote.Ref.{now}
 use lib.ListN.{length}
-use Prim.Native.Nat.{_+_, _%_}
+use Rattle.wire.proofs.Over.{wrote-as}
+use Prim.Native.Nat.{ℕ, _+_, _%_}
 use Rattle.wire.specs.Le.{le}
 use mathlib.Core.List.{[], _∷_}
 use Rattle.wire.proofs.Fields.{then-fields}
@@ -51,11 +52,12 @@ returns c = let v = c .before .before in
     let start = w .before .before .before .before .before in
     let m = now (start .args .text) in
     let size : be 2 ((14 + length m % 65536) % 65536) ≡ be 2 (messageLength m [] []) = low-be 2 _ (messageLength m [] []) (omega arith) in
+    let count = ap (λ (n : ℕ). flat (word 2 (n % 65536) ∷ raw m ∷ [])) (w .before .before .utf8-length .ensures) in
     let tail = word 1 0 ∷ word 1 0 ∷ word 4 1 ∷ [] in
     then-fields (word 1 0xAA ∷ raw (be 2 (messageLength m [] [])) ∷ word 4 50000 ∷ word 1 1 ∷ word 1 16 ∷ []) (word 2 (utf8Length m) ∷ raw m ∷ tail)
     (rw size at (w .put-error-head .ensures))
     (then-fields (word 2 (utf8Length m) ∷ raw m ∷ []) tail
-    (counted-low (utf8Length m) m (rw (w .before .before .utf8-length .ensures) at (u .put-text .ensures))) (v .put-slice .ensures))
+    (counted-low (utf8Length m) m (wrote-as (u .put-text .ensures) count)) (v .put-slice .ensures))
 
 pub put-error-spec : {M : Type 1} → statement M
 put-error-spec =
