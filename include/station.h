@@ -31,6 +31,44 @@ int64_t station_is_whitespace(uint16_t unit);
  */
 int64_t station_text(const uint8_t *text, size_t text_len, uint64_t *out, size_t out_len);
 
+/* The SQL text of a batch, without white space at its ends, as a part of the body.
+ * 0: start, length (2 elements).
+ * -1 empty, -2 under 4 bytes, -3 headers past the end, -4 a text that is not UTF-16.
+ */
+int64_t station_parse_sql_batch(const uint8_t *body, size_t body_len, uint64_t *out, size_t out_len);
+
+/* The type of a transaction manager request.
+ * -10 a request without one.
+ */
+int64_t station_parse_transaction_manager_request(const uint8_t *body, size_t body_len);
+
+/* The transaction descriptor header of a request.
+ * 1: transaction descriptor, count of outstanding requests (2 elements). 0: there is none, and `out` may be empty.
+ */
+int64_t station_parse_transaction_descriptor_header(const uint8_t *body, size_t body_len, uint64_t *out,
+                                                    size_t out_len);
+
+/* The federated authentication token in a packet's payload, as a part of it.
+ * 0: start, length (2 elements).
+ * -5 under 8 bytes, -6 a wrong outer length, -7 a wrong inner length.
+ */
+int64_t station_parse_fedauth_token(const uint8_t *payload, size_t payload_len, uint64_t *out, size_t out_len);
+
+/* What a login says; its feature ids go to the first elements of `ids`.
+ * 0 or more, the number of feature ids: fedauth (1 or 0), library, workflow (256: none), classification version
+ * (256: none), session (1 or 0), then start and length of token, server, user agent and database as parts of the body
+ * (2^32 and 0: none) (13 elements).
+ * -20 fewer elements of `ids` than feature ids, too.
+ */
+int64_t station_parse_login7(const uint8_t *body, size_t body_len, uint8_t *ids, size_t ids_len, uint64_t *out,
+                             size_t out_len);
+
+/* The database to open, the login's own or, where it has none, the fallback.
+ * 0: start, length in the body. 1: start, which is 0, and length in the fallback (2 elements).
+ */
+int64_t station_database(const uint8_t *body, size_t body_len, const uint8_t *fallback, size_t fallback_len,
+                         uint64_t *out, size_t out_len);
+
 #ifdef __cplusplus
 }
 #endif

@@ -1,11 +1,18 @@
 // The calls, a function each: it gets the input, puts its lines to out from at on, and answers the place behind them.
 use crate::lines;
+use crate::logins;
+use crate::requests;
 use packet::PacketHeader;
 use packet::PacketStatus;
 use packet::Parsed;
 
 pub(crate) enum Call {
     Header,
+    Batch,
+    Transaction,
+    Descriptor,
+    FedAuth,
+    Login,
     Unknown,
 }
 
@@ -13,8 +20,24 @@ pub(crate) enum Call {
 pub(crate) fn named(argument: usize) -> Call {
     let mut name = [0u8; 16];
     let n = os::arg(argument, &mut name);
-    if check::same(&name[..n], b"header") {
+    let word = &name[..n];
+    if check::same(word, b"header") {
         return Call::Header;
+    }
+    if check::same(word, b"batch") {
+        return Call::Batch;
+    }
+    if check::same(word, b"trans") {
+        return Call::Transaction;
+    }
+    if check::same(word, b"descriptor") {
+        return Call::Descriptor;
+    }
+    if check::same(word, b"fedauth") {
+        return Call::FedAuth;
+    }
+    if check::same(word, b"login") {
+        return Call::Login;
     }
     Call::Unknown
 }
@@ -23,6 +46,11 @@ pub(crate) fn named(argument: usize) -> Call {
 pub(crate) fn answer(call: Call, input: &[u8], out: &mut [u8], at: usize) -> usize {
     match call {
         Call::Header => answer_header(input, out, at),
+        Call::Batch => requests::batch(input, out, at),
+        Call::Transaction => requests::transaction(input, out, at),
+        Call::Descriptor => requests::descriptor(input, out, at),
+        Call::FedAuth => requests::fedauth(input, out, at),
+        Call::Login => logins::answer(input, out, at),
         Call::Unknown => at,
     }
 }
@@ -37,18 +65,16 @@ fn answer_header(input: &[u8], out: &mut [u8], at: usize) -> usize {
 // header TYPE STATUS LENGTH SPID NUMBER WINDOW eom=B ignore=B
 fn header_line(header: PacketHeader, out: &mut [u8], at: usize) -> usize {
     let packet_type = header.packet_type;
-    let at = lines::text(out, at, b"header ");
-    let at = lines::hex(out, at, packet_type.byte());
-    let at = lines::text(out, at, b" ");
-    let at = lines::hex(out, at, header.status.0);
-    header_numbers(header, out, at)
-}
-
-fn header_numbers(header: PacketHeader, out: &mut [u8], at: usize) -> usize {
-    let at = lines::number(out, at, header.length as u64);
-    let at = lines::number(out, at, header.spid as u64);
-    let at = lines::number(out, at, header.packet_id as u64);
-    let at = lines::number(out, at, header.window as u64);
+    let numbers = [
+        header.length as u64,
+        header.spid as u64,
+        header.packet_id as u64,
+        header.window as u64,
+    ];
+    let at = lines::text(out, at, b"header");
+    let at = lines::bytes(out, at, &[packet_type.byte()]);
+    let at = lines::bytes(out, at, &[header.status.0]);
+    let at = lines::numbers(out, at, &numbers);
     status_words(header.status, out, at)
 }
 

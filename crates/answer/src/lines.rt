@@ -3,7 +3,7 @@
 use libc::STDOUT_FILENO;
 use wire::Part;
 
-// Writes what stands before at to standard output; the buffer is empty then.
+// Writes what stands before at to standard output, and answers the place of an empty buffer.
 pub(crate) fn flush(out: &[u8], at: usize) -> usize {
     io::write_all(
         STDOUT_FILENO,
@@ -12,6 +12,7 @@ pub(crate) fn flush(out: &[u8], at: usize) -> usize {
     0
 }
 
+// Bytes as they are, no more than the buffer has room for.
 pub(crate) fn text(out: &mut [u8], at: usize, bytes: &[u8]) -> usize {
     let at = room(out, at, bytes.len());
     wire::put_slice(out, at, bytes)
@@ -25,11 +26,52 @@ pub(crate) fn number(out: &mut [u8], at: usize, n: u64) -> usize {
     text(out, at, &digits[..k])
 }
 
-// A byte as two digits in upper-case hexadecimal.
-pub(crate) fn hex(out: &mut [u8], at: usize, byte: u8) -> usize {
+// Numbers, each behind a space.
+pub(crate) fn numbers(out: &mut [u8], from: usize, values: &[u64]) -> usize {
+    let mut at = from;
+    let mut i = 0;
+    while i < values.len() {
+        at = number(out, at, values[i]);
+        i += 1;
+    }
+    at
+}
+
+// A word, and a part's start and length.
+pub(crate) fn part(out: &mut [u8], at: usize, word: &[u8], place: Part) -> usize {
+    let at = text(out, at, word);
+    numbers(out, at, &[place.start as u64, place.len as u64])
+}
+
+// Bytes in upper-case hexadecimal, behind a space; `-` where there are none.
+pub(crate) fn bytes(out: &mut [u8], at: usize, s: &[u8]) -> usize {
+    if s.len() == 0 {
+        return text(out, at, b" -");
+    }
+    let at = text(out, at, b" ");
+    digits(out, at, s)
+}
+
+fn digits(out: &mut [u8], from: usize, s: &[u8]) -> usize {
+    let mut at = from;
+    let mut i = 0;
+    while i < s.len() {
+        at = hex(out, at, s[i]);
+        i += 1;
+    }
+    at
+}
+
+// A byte as two digits.
+fn hex(out: &mut [u8], at: usize, byte: u8) -> usize {
     let at = room(out, at, 2);
     let at = wire::put_u8(out, at, digit(byte / 16));
     wire::put_u8(out, at, digit(byte % 16))
+}
+
+// The digit of a number under 16.
+fn digit(n: u8) -> u8 {
+    if n < 10 { b'0' + n } else { b'A' - 10 + n % 16 }
 }
 
 // A word and 1 or 0.
@@ -42,11 +84,22 @@ pub(crate) fn flag(out: &mut [u8], at: usize, word: &[u8], set: bool) -> usize {
     }
 }
 
+// A line of a word and a number.
+pub(crate) fn number_line(out: &mut [u8], at: usize, word: &[u8], n: u64) -> usize {
+    let at = text(out, at, word);
+    let at = number(out, at, n);
+    end(out, at)
+}
+
+// A line of a word and a part.
+pub(crate) fn part_line(out: &mut [u8], at: usize, word: &[u8], place: Part) -> usize {
+    let at = part(out, at, word, place);
+    end(out, at)
+}
+
 // The line of a refusal.
 pub(crate) fn refused(out: &mut [u8], at: usize, refusal: u8) -> usize {
-    let at = text(out, at, b"refused");
-    let at = number(out, at, refusal as u64);
-    end(out, at)
+    number_line(out, at, b"refused", refusal as u64)
 }
 
 // The end of a line.
@@ -61,8 +114,4 @@ fn room(out: &[u8], at: usize, n: usize) -> usize {
         return at;
     }
     flush(out, at)
-}
-
-fn digit(n: u8) -> u8 {
-    if n < 10 { b'0' + n } else { b'A' - 10 + n % 16 }
 }

@@ -2,6 +2,8 @@
 // `answer many CALL`: any number of inputs, each a 4-byte little-endian length and the bytes; an empty line follows each answer.
 mod calls;
 mod lines;
+mod logins;
+mod requests;
 mod runs;
 
 use calls::Call;
@@ -39,6 +41,6 @@ fn many(call: Call) {
 fn usage() {
     io::write_all(
         libc::STDOUT_FILENO,
-        b"usage: answer [many] CALL, where CALL is one of: header\n",
+        b"usage: answer [many] CALL, where CALL is one of: batch trans descriptor fedauth header login\n",
     );
 }

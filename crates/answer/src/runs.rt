@@ -6,9 +6,9 @@ use crate::lines;
 use libc::STDIN_FILENO;
 use wire::Part;
 
-// The most bytes of an input; one that is longer is refused.
+// The most bytes of an input.
 const MOST: usize = 65536;
-
+// The refusal of an input that is longer.
 const INPUT_TOO_LONG: u8 = 18;
 // The bytes of the lent input buffer: an input and the length of a next one.
 pub(crate) const ROOM: usize = 65540;
@@ -35,7 +35,8 @@ struct Run {
     more: bool,
 }
 
-// An answer and an empty line for each input.
+// An answer and an empty line for each input. Nothing says that standard input ends, and a proved loop does: the turns
+// count down from a number that no run uses up.
 pub(crate) fn many(call: Call, input: &mut [u8], out: &mut [u8]) -> usize {
     let mut run = first(input);
     let mut turns = u64::MAX;

@@ -66,7 +66,7 @@ impl PacketType {
     }
 }
 
-// The status byte. A sender keeps all its bits; two of them are tested here.
+// The status byte, kept with all its bits, of which two are tested.
 pub struct PacketStatus(pub u8);
 
 impl PacketStatus {

@@ -1,10 +1,11 @@
 -- How exports end: one law for each way, over the outcome, the lent slots and the number. Assumes nothing.
 use Prim.Native.Nat.{ℕ, _^_, _<_, _≤_}
 use mathlib.Core.Path.{_≡_, refl, sym, _∙_}
-use mathlib.Core.List.{List}
+use mathlib.Core.List.{List, []}
 use lib.ListN.{length}
 use lib.IntN.{ℤ}
 use lib.Signed.{mag}
+use native.Mathlib.Omega.{arith}
 use mir.Syntax.{w64}
 use mir.Val.{toZ, ofZ}
 use mir.Facts.{toZ-ofZ, toZ-pos}
@@ -35,3 +36,17 @@ too-few n out xs h fits e = simp (lt-ltb _ _ h) (toZ-ofZ {w = w64} (record { sfi
 pub written : (n : ℕ) (out xs left : List ℕ) → length xs ≤ length out → n < 2 ^ 63 → left ≡ overwrite out 0 xs → Ended (answers n xs) out left (toZ w64 n)
 unfolding answerOf slotsOf lent filled numberOf
 written n out xs left h fits e = simp (le-ltb _ _ h) (toZ-pos w64 fits, e)
+
+-- an answer that has no slots asks for none
+pub silent : {p : Outcome} (out : List ℕ) → answers 0 [] ≡ p → Ended p out out (toZ w64 0)
+unfolding overwrite
+silent out q = rw (sym q) (written 0 out [] out (omega arith) (omega arith) refl)
+
+-- the answer of an export without slots
+pub told : {p : Outcome} (n : ℕ) → n < 2 ^ 63 → answers n [] ≡ p → toZ w64 n ≡ numberOf p
+unfolding numberOf
+told n fits q = rw (sym q) (toZ-pos w64 fits)
+
+-- and its refusal
+pub denied : {p : Outcome} {n : ℕ} {r : ℤ} → mag r < 2 ^ 63 → r ≡ numberOf (refuses n) → refuses n ≡ p → toZ w64 (ofZ w64 r) ≡ numberOf p
+denied fits e q = rw (sym q) (toZ-ofZ {w = w64} (record { sfits = fits }) ∙ e)

@@ -1,16 +1,21 @@
 -- What an export answers: a number and the values of its first slots, or a refusal. Rests on wire's `overwrite`.
 use Prim.Native.Nat.{ℕ}
 use mathlib.Core.Bool.{cond}
-use mathlib.Core.List.{List}
+use mathlib.Core.List.{List, [], _∷_}
 use lib.ListN.{length}
 use lib.Dec.{ltb}
 use lib.IntN.{ℤ, pos, negℤ}
 use Rattle.wire.specs.Over.{overwrite}
+use Rattle.wire.specs.declared.Part.{Part}
 
 -- a number with the values of the first slots, or the number of a refusal
 pub data Outcome : Type 0 where
   answers : (number : ℕ) (slots : List ℕ) → Outcome
   refuses : (number : ℕ) → Outcome
+
+-- a number with a part's start and length
+abbrev pub answersPart : ℕ → Part → Outcome
+answersPart n p = answers n (p .start ∷ p .len ∷ [])
 
 -- as an i64: the number, or -N of refusal N
 unfoldable pub numberOf : Outcome → ℤ

@@ -1,2 +1,4 @@
 pub mod Answer
 pub mod Calls
+pub mod Requests
+pub mod Logins

@@ -1,7 +1,9 @@
 // The station unit's calls for C and Rust, on numbers and lent slices (include/station.h declares them).
 // Every answer is an i64: 0 or more as said, or -N for refusal N with nothing written. `out` is lent for numbers: the
 // first slots are written, and fewer slots than needed is -20, after all other refusals.
-// A call's contract is its outcome (specs/Calls.antt) as answer and as slots; it ends by `refused` or by `answered`.
+// A call's contract is its outcome (specs/) as answer and as slots; it ends by `refused` or by `answered`.
+mod logins;
+mod requests;
 mod slots;
 
 ghost use mathlib.Core.Path.{_≡_};

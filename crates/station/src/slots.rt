@@ -1,11 +1,12 @@
 // How an export ends: with its number and its slots, or with a refusal.
+use wire::Part;
 ghost use mathlib.Core.Path.{_≡_};
 ghost use mathlib.Core.Bool.{cond};
 ghost use Prim.Native.Nat.{_<_, _^_};
-ghost use Rattle.station.specs.Answer.{answers, refuses, numberOf, answerOf, slotsOf};
+ghost use Rattle.station.specs.Answer.{answers, answersPart, refuses, numberOf, answerOf, slotsOf};
 
 // The lent slots are too few.
-const TOO_FEW_SLOTS: u8 = 20;
+pub(crate) const TOO_FEW_SLOTS: u8 = 20;
 
 // The last step of an export that has slots, after all its other refusals: its number, and the values of the first slots.
 pub(crate) fn answered(out: &mut [u64], number: usize, values: &[u64]) -> i64
@@ -22,6 +23,15 @@ pub(crate) fn answered(out: &mut [u64], number: usize, values: &[u64]) -> i64
         i += 1;
     }
     number as i64
+}
+
+// The same of a part: its start and its length.
+pub(crate) fn answered_part(out: &mut [u64], number: usize, part: Part) -> i64
+    requires { ⌜ number < 2 ^ 63 ⌝ }
+    ensures { λ r. ⌜ r ≡ answerOf (answersPart number part) (now (out .entry)) ⌝ }
+    ensures { λ _. ⌜ now (out .exit) ≡ slotsOf (answersPart number part) (now (out .entry)) ⌝ }
+{
+    answered(out, number, &[part.start as u64, part.len as u64])
 }
 
 // A refusal's answer.

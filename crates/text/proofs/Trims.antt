@@ -4,7 +4,7 @@ use mathlib.Core.List.{List, [], _∷_, _++_, reverse, reverse-append}
 use mathlib.Core.Bool.{Bool, true, false, cond}
 use Prim.Native.Nat.{ℕ, zero, suc, _+_, _-_, _*_, _/_, _≤_, _<_}
 use native.Mathlib.Omega.{arith}
-use lib.ListN.{length, take, drop, length-append}
+use lib.ListN.{length, take, drop, length-append, length-drop}
 use lib.Seq.{take-suc, take-length, length-take-le}
 use Rattle.wire.specs.declared.Part.{Part}
 use Rattle.wire.proofs.Parts.{rest-is}
@@ -62,3 +62,19 @@ unfolding trimmed
 trims s start e f =
     let rest : unitsOf (take (length s - start) (drop start s)) ≡ drop (leading (unitsOf s)) (unitsOf s) = rw (rest-is s start, e, units-from (leading (unitsOf s)) s) in
     rw (f, rest, e)
+
+-- the part lies in the text
+most : (b : Bool) (m n : ℕ) → m ≤ n → cond b (suc m) 0 ≤ suc n
+most true m n h = omega arith
+most false m n h = omega arith
+
+lead-most : (us : List ℕ) → leading us ≤ length us
+unfolding leading
+lead-most [] = omega arith
+lead-most (u ∷ us) = most (isWhitespace u) (leading us) (length us) (lead-most us)
+
+pub trimmed-in : (s : List ℕ) → trimmed s .start + trimmed s .len ≤ length s
+unfolding trimmed kept
+trimmed-in s =
+    let us : List ℕ = unitsOf s in
+    omega (arith, lead-most us, length-drop (leading us) us, length-units s)

@@ -6,7 +6,7 @@ ghost use Prim.Native.Nat.{_%_};
 ghost use lib.ListN.{length};
 ghost use Rattle.wire.specs.Fields.{flat, word, raw};
 ghost use Rattle.wire.specs.Over.{Wrote};
-ghost use Rattle.token.specs.Types.{dataTypeOf, typeCode, typeLength};
+ghost use Rattle.token.specs.Types.{dataTypeOf, typeCode, typeLength, lengthWidth, collationSize};
 ghost use Rattle.token.specs.Tokens.{metadata, column, row, cell, done, message, integer, noInteger, bounded, noLong, bytesOf, usVarchar, bVarchar, messageHead, messageLength, typeFields};
 
 // The codes of tokens, as MS-TDS numbers them.
@@ -80,6 +80,27 @@ pub fn max_length(t: SqlDataType) -> u16
         SqlDataType::NVarCharMax => 0xFFFF,
         SqlDataType::VarCharMax => 0xFFFF,
         SqlDataType::VarBinaryMax => 0xFFFF,
+    }
+}
+
+// In how many bytes a type's length stands.
+pub fn length_width(code: u8) -> u8
+    ensures { λ r. ⌜ r ≡ lengthWidth code ⌝ }
+{
+    match code {
+        0x26 => 1,
+        _ => 2,
+    }
+}
+
+// How many bytes of collation a type has.
+pub fn collation_size(code: u8) -> usize
+    ensures { λ r. ⌜ r ≡ collationSize code ⌝ }
+{
+    match code {
+        0xE7 => 5,
+        0xA7 => 5,
+        _ => 0,
     }
 }
 

@@ -9,6 +9,10 @@ use Rattle.wire.proofs.Over.{then, wrote-as}
 use Rattle.wire.specs.Fields.{Field, word, raw, flat}
 use Rattle.wire.proofs.Le.{length-le}
 
+pub size-none : length (flat []) ≡ 0
+unfolding flat
+size-none = refl
+
 pub size-word : (k n : ℕ) (fs : List Field) → length (flat (word k n ∷ fs)) ≡ k + length (flat fs)
 unfolding flat
 size-word k n fs = length-append (le k n) (flat fs) ∙ ap (λ (m : ℕ). m + length (flat fs)) (length-le k n)

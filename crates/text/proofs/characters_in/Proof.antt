@@ -8,15 +8,17 @@ use Rattle.text.proofs.characters_in.Tie as tie
 
 returns : tie.Need-returns
 unfolding charactersIn
-returns c = (simp (in-span 0xdc00 0xdfff (c .before .before .args .u) (omega arith) (omega arith)), search needs)
+returns c =
+    let u = c .before .before .args .u in
+    (simp (in-span 0xdc00 0xdfff u (omega arith) (omega arith)), search needs)
 
 returns-2 : tie.Need-returns-2
 unfolding charactersIn
-returns-2 c = (simp (below-span 0xdc00 0xdfff (c .before .args .u) (omega arith)), search needs)
+returns-2 c = let u = c .before .args .u in (simp (below-span 0xdc00 0xdfff u (omega arith)), search needs)
 
 returns-3 : tie.Need-returns-3
 unfolding charactersIn
-returns-3 c = (simp (above-span 0xdc00 0xdfff (c .before .before .args .u) (omega arith)), search needs)
+returns-3 c = let u = c .before .before .args .u in (simp (above-span 0xdc00 0xdfff u (omega arith)), search needs)
 
 pub characters-in-spec : {M : Type 1} → statement M
 characters-in-spec = tie.close (tie.spec returns returns-2 returns-3)

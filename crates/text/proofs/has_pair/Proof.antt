@@ -71,7 +71,9 @@ loop-again-2 c = (search needs, turn (c .before .before) (c .enum-told3 .given .
 
 returns-2 : tie.Need-returns-2 Inv-loop μ-loop
 unfolding anyHigh
-returns-2 c = let l = c .before in rw (no-kind (now (l .before .before .args .s)) (l .loop .at) (omega arith)) at (l .loop .inv .1)
+returns-2 c =
+    let l = c .before in
+    rw (no-kind (now (l .before .before .args .s)) (l .loop .at) (omega arith)) at (l .loop .inv .1)
 
 pub has-pair-spec : {M : Type 1} → statement M
 has-pair-spec =

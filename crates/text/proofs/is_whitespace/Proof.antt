@@ -30,29 +30,41 @@ unfolding isWhitespace
 in-one u i h lo hi = sym (inside u blanks i (0, 0) h lo hi)
 
 returns : tie.Need-returns
-returns c = in-none (c .before .before .args .u) (c .before .match .rest .1) (omega arith) (omega arith) (omega arith)
+returns c =
+    let u = c .before .before .args .u in
+    in-none u (c .before .match .rest .1) (omega arith) (omega arith) (omega arith)
 
 returns-2 : tie.Need-returns-2
-returns-2 c = in-none (c .before .before .before .before .args .u) (c .before .before .before .match .rest .1) (omega arith) (omega arith) (omega arith)
+returns-2 c =
+    let u = c .before .before .before .before .args .u in
+    in-none u (c .before .before .before .match .rest .1) (omega arith) (omega arith) (omega arith)
 
 returns-3 : tie.Need-returns-3
-returns-3 c = in-none (c .before .before .before .before .before .before .args .u) (c .before .before .before .before .before .match .rest .1) (omega arith) (omega arith) (omega arith)
+returns-3 c =
+    let u = c .before .before .before .before .before .before .args .u in
+    in-none u (c .before .before .before .before .before .match .rest .1) (omega arith) (omega arith) (omega arith)
 
 returns-4 : tie.Need-returns-4
-returns-4 c = in-none (c .before .before .before .before .before .before .before .args .u) (c .before .before .before .before .before .before .match .rest .1) (omega arith) (omega arith) (omega arith)
+returns-4 c =
+    let u = c .before .before .before .before .before .before .before .args .u in
+    in-none u (c .before .before .before .before .before .before .match .rest .1) (omega arith) (omega arith) (omega arith)
 
 returns-5 : tie.Need-returns-5
 unfolding isWhitespace inAny
-returns-5 c = sym (one-of isWhitespace 0x0020 keys (c .before .args .u) (search needs) (c .match .keys1))
+returns-5 c = let u = c .before .args .u in sym (one-of isWhitespace 0x0020 keys u (search needs) (c .match .keys1))
 
 returns-6 : tie.Need-returns-6
-returns-6 c = in-one (c .before .before .before .args .u) 0 (lit< tt) (omega arith) (omega arith)
+returns-6 c = let u = c .before .before .before .args .u in in-one u 0 (lit< tt) (omega arith) (omega arith)
 
 returns-7 : tie.Need-returns-7
-returns-7 c = in-one (c .before .before .before .before .before .args .u) 5 (lit< tt) (omega arith) (omega arith)
+returns-7 c =
+    let u = c .before .before .before .before .before .args .u in
+    in-one u 5 (lit< tt) (omega arith) (omega arith)
 
 returns-8 : tie.Need-returns-8
-returns-8 c = in-one (c .before .before .before .before .before .before .before .args .u) 6 (lit< tt) (omega arith) (omega arith)
+returns-8 c =
+    let u = c .before .before .before .before .before .before .before .args .u in
+    in-one u 6 (lit< tt) (omega arith) (omega arith)
 
 pub is-whitespace-spec : {M : Type 1} → statement M
 is-whitespace-spec =

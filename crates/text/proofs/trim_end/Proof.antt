@@ -37,7 +37,10 @@ mul-result : tie.Need-mul-result Inv-loop μ-loop
 mul-result c = search needs
 
 returns : tie.Need-returns Inv-loop μ-loop
-returns c = let l = c .before .before .before .before in let s = now (l .before .before .args .s) in omega (arith, kept-at s (l .loop .n) (omega arith) (omega arith) (c .before .before .unit .ensures) (c .before .is-whitespace .ensures) (not-true _ (c .if1 .taken)))
+returns c =
+    let l = c .before .before .before .before in
+    let s = now (l .before .before .args .s) in
+    omega (arith, kept-at s (l .loop .n) (omega arith) (omega arith) (c .before .before .unit .ensures) (c .before .is-whitespace .ensures) (not-true _ (c .if1 .taken)))
 
 sub-n : tie.Need-sub-n Inv-loop μ-loop
 sub-n c = search needs
@@ -46,7 +49,10 @@ loop-less : tie.Need-loop-less Inv-loop μ-loop
 loop-less c = search needs
 
 loop-again : tie.Need-loop-again Inv-loop μ-loop
-loop-again c = let l = c .before .before .before .before in let s = now (l .before .before .args .s) in (search needs, sym (kept-at s (l .loop .n) (omega arith) (omega arith) (c .before .before .unit .ensures) (c .before .is-whitespace .ensures) (not-false _ (c .if1 .left))) ∙ l .loop .inv .1)
+loop-again c =
+    let l = c .before .before .before .before in
+    let s = now (l .before .before .args .s) in
+    (search needs, sym (kept-at s (l .loop .n) (omega arith) (omega arith) (c .before .before .unit .ensures) (c .before .is-whitespace .ensures) (not-false _ (c .if1 .left))) ∙ l .loop .inv .1)
 
 returns-2 : tie.Need-returns-2 Inv-loop μ-loop
 returns-2 c = let l = c .before in omega (arith, kept-none (now (l .before .before .args .s)) (l .loop .n) (omega arith))

@@ -21,7 +21,8 @@ trim-end-requires : tie.Need-trim-end-requires
 trim-end-requires c κs = search needs
 
 returns : tie.Need-returns
-returns c = trims (now (c .before .before .before .before .args .s)) (c .before .before .trim-start .result) (c .before .before .trim-start .ensures .0) (c .trim-end .ensures)
+returns c =
+    trims (now (c .before .before .before .before .args .s)) (c .before .before .trim-start .result) (c .before .before .trim-start .ensures .0) (c .trim-end .ensures)
 
 pub trimmed-spec : {M : Type 1} → statement M
 trimmed-spec =

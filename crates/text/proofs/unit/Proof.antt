@@ -19,7 +19,8 @@ u16-from-le-bytes-requires : tie.Need-u16-from-le-bytes-requires
 u16-from-le-bytes-requires c κs = search needs
 
 returns : tie.Need-returns
-returns c = let a = c .before .before .before .before .args in unit-at (now (a .s)) (a .at) (omega arith) (c .u16-from-le-bytes .ensures)
+returns c =
+    let a = c .before .before .before .before .args in unit-at (now (a .s)) (a .at) (omega arith) (c .u16-from-le-bytes .ensures)
 
 pub unit-spec : {M : Type 1} → statement M
 unit-spec =

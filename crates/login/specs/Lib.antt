@@ -1,0 +1,4 @@
+pub mod Body
+pub mod Features
+pub mod Rules
+pub mod Login

@@ -1,0 +1,197 @@
+-- Worked packets: what a run over each tells, in one table that one theorem covers by computation. Cases 1 to 3 of document 01,
+-- a message, cells, and the refusals of a sender. Assumes nothing.
+use mathlib.Core.Path.{_≡_, refl}
+use mathlib.Core.Bool.{false}
+use mathlib.Core.List.{List, [], _∷_, _++_, map}
+use Prim.Native.Nat.{ℕ, zero, suc}
+use lib.IntN.{pos, negsuc}
+use lib.ListN.{length, replicate}
+use Rattle.wire.specs.Le.{leAt, le}
+use Rattle.wire.specs.Be.{beAt, be, first}
+use Rattle.wire.specs.Part.{bytesOf}
+use Rattle.packet.specs.Types.{types, typeIn, typeOf}
+use Rattle.packet.specs.Status.{hasBit}
+use Rattle.packet.specs.Header.{parsedOf}
+use Rattle.packet.specs.Reply.{replyHeader, packetOf}
+use Rattle.token.specs.Types.{lengthWidth, collationSize}
+use Rattle.token.specs.Tokens.{metadata, column, row, cell, done, message, number, part, null, signed}
+use Rattle.reader.specs.declared.Position.{Position}
+use Rattle.reader.specs.Places.{numberAt, partAt, must, then}
+use Rattle.reader.specs.Cells.{isCode, isType, typeAt, integerAt, boundedAt, isChunk, isLast, chunksAt, maxAt, cellAt}
+use Rattle.reader.specs.Tokens.{columnAt, metadataAt, rowAt, doneAt, textAt, messageAt, tokenAt}
+use Rattle.reader.specs.Positions.{freshPosition, held, stands, after}
+use Rattle.reader.specs.Reader.{rowCellAt, nextAt, isReply, stepOf}
+use Rattle.reader.specs.Meaning.{chunkBytes, Told, told, ended, refusal, tell}
+
+-- ---- pieces of payloads
+
+-- DONE of a status and a row count, both under 256
+abbrev doneOf : ℕ → ℕ → List ℕ
+doneOf s n = 0xFD ∷ s ∷ 0 ∷ 0xC1 ∷ 0 ∷ n ∷ replicate 7 0
+
+-- COLMETADATA of one column, and that column up to its type
+abbrev column1 : List ℕ
+column1 = 0x81 ∷ 1 ∷ replicate 7 0
+
+abbrev collation : List ℕ
+collation = 1 ∷ 2 ∷ 3 ∷ 4 ∷ 5 ∷ []
+
+-- a column without a name, of SmallInt, bounded text, Max text or Max bytes, and a ROW
+abbrev smallint : List ℕ → List ℕ
+smallint s = column1 ++ (0x26 ∷ 2 ∷ 0 ∷ 0xD1 ∷ s)
+
+abbrev nvarchar : List ℕ → List ℕ
+nvarchar s = column1 ++ (0xE7 ∷ 4 ∷ 0 ∷ collation ++ (0 ∷ 0xD1 ∷ s))
+
+abbrev nvarcharMax : List ℕ → List ℕ
+nvarcharMax s = column1 ++ (0xE7 ∷ 0xFF ∷ 0xFF ∷ collation ++ (0 ∷ 0xD1 ∷ s))
+
+abbrev varbinaryMax : List ℕ → List ℕ
+varbinaryMax s = column1 ++ (0xA5 ∷ 0xFF ∷ 0xFF ∷ 0 ∷ 0xD1 ∷ s)
+
+-- a Max total by its lowest byte and the others, and a chunk, before other bytes
+abbrev total : ℕ → ℕ → List ℕ → List ℕ
+total low high s = low ∷ replicate 7 high ++ s
+
+abbrev chunk : List ℕ → List ℕ → List ℕ
+chunk x s = length x ∷ 0 ∷ 0 ∷ 0 ∷ x ++ s
+
+-- ERROR up to the count of its text's units; with a text of one unit, up to the server's; with a server of none, up to the procedure's
+abbrev error1 : ℕ → ℕ → List ℕ
+error1 size units = 0xAA ∷ size ∷ 0 ∷ 1 ∷ 0 ∷ 0 ∷ 0 ∷ 2 ∷ 3 ∷ units ∷ 0 ∷ []
+
+abbrev error2 : ℕ → ℕ → List ℕ
+error2 size units = error1 size 1 ++ (0x41 ∷ 0 ∷ units ∷ [])
+
+-- ---- what they tell
+
+abbrev toldRow : ℕ → ℕ → List ℕ → List Told → List Told
+toldRow code limit collation ts = told (metadata 1) ∷ told (column 0 0 code limit collation []) ∷ told row ∷ ts
+
+abbrev toldSmall : List Told → List Told
+toldSmall ts = toldRow 0x26 2 [] ts
+
+abbrev toldText : List Told → List Told
+toldText ts = toldRow 0xE7 4 collation ts
+
+abbrev toldMax : List Told → List Told
+toldMax ts = toldRow 0xE7 0xFFFF collation ts
+
+abbrev toldBytes : List Told → List Told
+toldBytes ts = toldRow 0xA5 0xFFFF [] ts
+
+-- ---- the table
+
+-- a packet, where a run over it starts, and what its first answers tell
+record Example : Type 0 where
+  packet : List ℕ
+  from : Position
+  tells : List Told
+
+abbrev over : List ℕ → List Told → Example
+over p ts = record { packet = p; from = freshPosition; tells = ts }
+
+abbrev reply : List ℕ → List Told → Example
+reply payload ts = over (packetOf payload) ts
+
+-- a reply whose first step is refused, and so the next
+abbrev refuses : ℕ → List ℕ → Example
+refuses n payload = reply payload (refusal n ∷ refusal n ∷ [])
+
+-- a position of a count, columns and cells to come and one held type, over a reply that is one DONE
+abbrev forged : ℕ → ℕ → ℕ → ℕ → ℕ → ℕ → Told → Example
+forged place count columns cells code limit t =
+    record {
+      packet = packetOf (doneOf 0 0);
+      from = record { place = place; count = count; types = code ∷ replicate 127 0x26; limits = limit ∷ replicate 127 1; columns = columns; cells = cells; over = false };
+      tells = t ∷ [];
+    }
+
+abbrev replies : List Example
+replies =
+    over (0x04 ∷ 0x01 ∷ 0x00 ∷ 0x18 ∷ 0 ∷ 0 ∷ 1 ∷ 0 ∷ 0x81 ∷ 0 ∷ 0 ∷ doneOf 0 0)
+    (told (metadata 0) ∷ told (done 0 0xC1 0) ∷ ended ∷ ended ∷ [])
+    ∷ over (0x04 ∷ 0x01 ∷ 0x00 ∷ 41 ∷ 0 ∷ 0 ∷ 1 ∷ 0 ∷ column1 ++ (0x26 ∷ 4 ∷ 1 ∷ 0x6E ∷ 0 ∷ 0xD1 ∷ 4 ∷ 7 ∷ 0 ∷ 0 ∷ 0 ∷ doneOf 0 1))
+    (told (metadata 1) ∷ told (column 0 0 0x26 4 [] (0x6E ∷ 0 ∷ [])) ∷ told row ∷ told (cell (number (pos 7))) ∷ told (done 0 0xC1 1) ∷ ended ∷ [])
+    ∷ over (0x04 ∷ 0x01 ∷ 0x00 ∷ 40 ∷ 0 ∷ 0 ∷ 1 ∷ 0 ∷ 0x81 ∷ 0 ∷ 0 ∷ doneOf 1 0 ++ (0x81 ∷ 0 ∷ 0 ∷ doneOf 0 0))
+    (told (metadata 0) ∷ told (done 1 0xC1 0) ∷ told (metadata 0) ∷ told (done 0 0xC1 0) ∷ ended ∷ [])
+    ∷ reply (error2 18 1 ++ (0x42 ∷ 0 ∷ 0 ∷ 7 ∷ 0 ∷ 0 ∷ 0 ∷ doneOf 2 0))
+    (told (message 0xAA 1 2 3 (0x41 ∷ 0 ∷ []) (0x42 ∷ 0 ∷ []) [] 7) ∷ told (done 2 0xC1 0) ∷ ended ∷ [])
+    ∷ reply (smallint (2 ∷ 0 ∷ 0x80 ∷ 0xD1 ∷ 0 ∷ doneOf 0 2))
+    (toldSmall (told (cell (number (negsuc 32767))) ∷ told row ∷ told (cell null) ∷ told (done 0 0xC1 2) ∷ ended ∷ []))
+    ∷ reply (nvarchar (2 ∷ 0 ∷ 0x41 ∷ 0 ∷ 0xD1 ∷ 0xFF ∷ 0xFF ∷ doneOf 0 2))
+    (toldText (told (cell (part (0x41 ∷ 0 ∷ []))) ∷ told row ∷ told (cell null) ∷ told (done 0 0xC1 2) ∷ ended ∷ []))
+    ∷ reply (nvarcharMax (total 4 0 (chunk (0x41 ∷ 0 ∷ []) (chunk (0x42 ∷ 0 ∷ []) (chunk [] (0xD1 ∷ total 0xFF 0xFF (doneOf 0 2)))))))
+    (toldMax (told (cell (part (0x41 ∷ 0 ∷ 0x42 ∷ 0 ∷ []))) ∷ told row ∷ told (cell null) ∷ told (done 0 0xC1 2) ∷ ended ∷ []))
+    ∷ reply (varbinaryMax (total 0xFE 0xFF (chunk (1 ∷ []) (chunk (2 ∷ 3 ∷ []) (chunk [] (0xD1 ∷ total 0 0 (chunk [] (doneOf 0 2))))))))
+    (toldBytes (told (cell (part (1 ∷ 2 ∷ 3 ∷ []))) ∷ told row ∷ told (cell (part [])) ∷ told (done 0 0xC1 2) ∷ ended ∷ []))
+    ∷ []
+
+-- 8 and 9, 23, 24 of the packet's end, 25, 27, 28
+abbrev framed : List Example
+framed =
+    over (4 ∷ 1 ∷ 0 ∷ 7 ∷ 0 ∷ 0 ∷ 1 ∷ []) (refusal 8 ∷ [])
+    ∷ over (0x02 ∷ 1 ∷ 0 ∷ 8 ∷ 0 ∷ 0 ∷ 1 ∷ 0 ∷ []) (refusal 9 ∷ [])
+    ∷ over (0x01 ∷ 1 ∷ 0 ∷ 8 ∷ 0 ∷ 0 ∷ 1 ∷ 0 ∷ []) (refusal 23 ∷ [])
+    ∷ over (4 ∷ 0x02 ∷ 0 ∷ 8 ∷ 0 ∷ 0 ∷ 1 ∷ 0 ∷ []) (refusal 23 ∷ [])
+    ∷ over (4 ∷ 1 ∷ 0 ∷ 9 ∷ 0 ∷ 0 ∷ 1 ∷ 0 ∷ []) (refusal 23 ∷ [])
+    ∷ refuses 24 []
+    ∷ refuses 24 (0xFD ∷ 0 ∷ [])
+    ∷ reply (doneOf 1 0) (told (done 1 0xC1 0) ∷ refusal 24 ∷ [])
+    ∷ refuses 25 (0xD2 ∷ [])
+    ∷ refuses 27 (0x81 ∷ 129 ∷ 0 ∷ [])
+    ∷ refuses 24 (0x81 ∷ 129 ∷ [])
+    ∷ refuses 28 (0xD1 ∷ [])
+    ∷ reply (smallint (2 ∷ 0 ∷ 0 ∷ doneOf 1 1 ++ (0xD1 ∷ []))) (toldSmall (told (cell (number (pos 0))) ∷ told (done 1 0xC1 1) ∷ refusal 28 ∷ []))
+    ∷ []
+
+-- 26 at the field that is at fault, even where the packet is cut behind it
+abbrev wrong : List Example
+wrong =
+    reply (doneOf 0 0 ++ (0xD1 ∷ [])) (told (done 0 0xC1 0) ∷ refusal 26 ∷ refusal 26 ∷ [])
+    ∷ reply (column1 ++ (0x38 ∷ [])) (told (metadata 1) ∷ refusal 26 ∷ [])
+    ∷ reply (column1 ++ (0x26 ∷ 3 ∷ [])) (told (metadata 1) ∷ refusal 26 ∷ [])
+    ∷ reply (column1 ++ (0xE7 ∷ 0x41 ∷ 0x1F ∷ [])) (told (metadata 1) ∷ refusal 26 ∷ [])
+    ∷ reply (column1 ++ (0xA7 ∷ 4 ∷ 0 ∷ [])) (told (metadata 1) ∷ refusal 26 ∷ [])
+    ∷ reply (smallint (1 ∷ [])) (toldSmall (refusal 26 ∷ []))
+    ∷ reply (nvarchar (3 ∷ 0 ∷ [])) (toldText (refusal 26 ∷ []))
+    ∷ reply (nvarchar (6 ∷ 0 ∷ [])) (toldText (refusal 26 ∷ []))
+    ∷ reply (nvarcharMax (total 3 0 [])) (toldMax (refusal 26 ∷ []))
+    ∷ reply (nvarcharMax (total 2 0 (4 ∷ 0 ∷ 0 ∷ 0 ∷ []))) (toldMax (refusal 26 ∷ []))
+    ∷ reply (nvarcharMax (total 2 0 (0 ∷ 0 ∷ 0 ∷ 0 ∷ []))) (toldMax (refusal 26 ∷ []))
+    ∷ reply (nvarcharMax (total 0xFE 0xFF (3 ∷ 0 ∷ 0 ∷ 0 ∷ []))) (toldMax (refusal 26 ∷ []))
+    ∷ reply (nvarcharMax (total 0xFE 0xFF (4 ∷ 0 ∷ 0 ∷ []))) (toldMax (refusal 24 ∷ []))
+    ∷ refuses 26 (0xAB ∷ 12 ∷ 0 ∷ [])
+    ∷ refuses 26 (0xAB ∷ 15 ∷ 0 ∷ [])
+    ∷ refuses 26 (error1 16 2)
+    ∷ refuses 26 (0xAA ∷ 0x0C ∷ 0x04 ∷ 1 ∷ 0 ∷ 0 ∷ 0 ∷ 2 ∷ 3 ∷ 0 ∷ 0 ∷ [])
+    ∷ refuses 26 (error2 18 2)
+    ∷ refuses 26 (0xAA ∷ 0x10 ∷ 0x02 ∷ 1 ∷ 0 ∷ 0 ∷ 0 ∷ 2 ∷ 3 ∷ 1 ∷ 0 ∷ 0x41 ∷ 0 ∷ 0 ∷ [])
+    ∷ refuses 26 (error2 18 0 ++ (0 ∷ []))
+    ∷ refuses 24 (error2 18 0 ++ (1 ∷ []))
+    ∷ []
+
+-- 24 for a position that cannot be: in the header, past the end, of 129 columns, past its columns or cells, of a type that is none
+abbrev positions : List Example
+positions =
+    forged 8 1 0 0 0x26 4 (told (done 0 0xC1 0))
+    ∷ forged 7 0 0 0 0x26 4 (refusal 24)
+    ∷ forged 22 0 0 0 0x26 4 (refusal 24)
+    ∷ forged 8 129 0 0 0x26 4 (refusal 24)
+    ∷ forged 8 1 2 0 0x26 4 (refusal 24)
+    ∷ forged 8 1 0 2 0x26 4 (refusal 24)
+    ∷ forged 8 1 0 0 0x38 4 (refusal 24)
+    ∷ forged 8 1 0 0 0xE7 0 (refusal 24)
+    ∷ []
+
+-- what the first k answers of a run tell
+abbrev trace : ℕ → List ℕ → Position → List Told
+trace zero p at = []
+trace (suc k) p at = tell p (stepOf p at .answer) ∷ trace k p (stepOf p at .next)
+
+table : List Example
+table = replies ++ framed ++ wrong ++ positions
+
+all-told : map (λ e. trace (length (e .tells)) (e .packet) (e .from)) table ≡ map (λ e. e .tells) table
+unfolding table leAt le beAt be first bytesOf types typeIn typeOf hasBit parsedOf replyHeader packetOf lengthWidth collationSize signed numberAt partAt must then isCode isType typeAt integerAt boundedAt isChunk isLast chunksAt maxAt cellAt columnAt metadataAt rowAt doneAt textAt messageAt tokenAt held stands after rowCellAt nextAt isReply stepOf chunkBytes
+all-told = refl

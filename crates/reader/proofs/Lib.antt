@@ -1,0 +1,12 @@
+pub mod Examples
+pub mod Standing
+pub mod Types
+pub mod Held
+pub mod Behind
+pub mod Chunks
+pub mod Found
+pub mod Runs
+pub mod ReadBack
+pub mod Names
+pub mod Sendable
+pub mod EveryKind

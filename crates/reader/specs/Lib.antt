@@ -1,0 +1,7 @@
+pub mod Places
+pub mod Cells
+pub mod Tokens
+pub mod Positions
+pub mod Reader
+pub mod Meaning
+pub mod WellFormed

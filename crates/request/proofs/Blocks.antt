@@ -1,0 +1,82 @@
+-- The headers block of a request, and one turn of the walk over its headers. Assumes nothing.
+use mathlib.Core.Path.{_≡_, refl, sym, ap, _∙_}
+use mathlib.Core.List.{List, [], _∷_}
+use mathlib.Core.Bool.{Bool, true, cond, _&&_}
+use Prim.Native.Nat.{ℕ, zero, suc, _+_, _-_, _≤_, _<_}
+use native.Mathlib.Nat.{lt-of-not-le}
+use native.Mathlib.Decide.{decLe}
+use native.Mathlib.Omega.{arith}
+use lib.ListN.{length, drop, length-drop}
+use lib.Seq.{drop-drop}
+use lib.Dec.{leb, eqb}
+use borrow.Author.Tests.{le-ltb, lt-ltb}
+use Rattle.wire.specs.Le.{leAt}
+use Rattle.request.specs.Headers.{allHeaders}
+use Rattle.request.specs.Transaction.{broken, isDescriptor, descriptorIn}
+use Rattle.request.specs.declared.Headers.{Headers}
+use Rattle.request.specs.declared.Headers.the-variants.{Length, Short, PastEnd}
+use Rattle.request.specs.declared.Descriptor.the-variants.{Found, Missing}
+
+-- ---- the block lies in the request
+
+abbrev Within : ℕ → Headers → Type 0
+Within m Short = Unit {0}
+Within m PastEnd = Unit {0}
+Within m (Length n) = n ≤ m
+
+within : (body : List ℕ) → Within (length body) (allHeaders body)
+unfolding allHeaders
+within body =
+    elim (decLe 4 (length body)) [
+      | yes h ↦ elim (decLe (leAt 4 body) (length body)) [
+        | yes k ↦ simp (le-ltb (length body) 4 h, le-ltb (length body) (leAt 4 body) k) k
+        | no k ↦ simp (le-ltb (length body) 4 h, lt-ltb (length body) (leAt 4 body) (lt-of-not-le k)) tt
+      ]
+      | no h ↦ simp (lt-ltb (length body) 4 (lt-of-not-le h)) tt
+    ]
+
+pub block-in : (body : List ℕ) {n : ℕ} → allHeaders body ≡ Length n → n ≤ length body
+block-in body e = rw e at (within body)
+
+-- ---- the walk
+
+-- the bytes that are passed over are there
+passed : (n : ℕ) (l : List ℕ) → n ≤ length l → descriptorIn n l ≡ descriptorIn 0 (drop n l)
+unfolding descriptorIn
+passed zero l h = refl
+passed (suc n) [] h = absurd (omega arith)
+passed (suc n) (b ∷ l) h = passed n l (omega arith)
+
+-- a header at the front of a block
+front : (l : List ℕ) → 6 ≤ length l → 6 ≤ leAt 4 l → leAt 4 l ≤ length l
+    → descriptorIn 0 l ≡ cond (isDescriptor (leAt 4 l) l) (Found (leAt 8 (drop 6 l)) (leAt 4 (drop 14 l))) (descriptorIn 0 (drop (leAt 4 l) l))
+unfolding descriptorIn
+front [] h j k = absurd (omega arith)
+front (b ∷ l) h j k =
+    let n : ℕ = leAt 4 (b ∷ l) in
+    let e : n ≡ suc (n - 1) = omega arith in
+    let rest : descriptorIn (n - 1) l ≡ descriptorIn 0 (drop n (b ∷ l)) = passed (n - 1) l (omega arith) ∙ ap (λ (i : ℕ). descriptorIn 0 (drop i (b ∷ l))) (sym e) in
+    simp (le-ltb (suc (length l)) 6 h, le-ltb n 6 j, le-ltb (suc (length l)) n k, rest)
+
+broken-front : (l : List ℕ) → broken (leAt 4 l) l ≡ true → descriptorIn 0 l ≡ Missing
+unfolding descriptorIn
+broken-front [] h = refl
+broken-front (b ∷ l) h = rw h
+
+module _ (s : List ℕ) (at : ℕ) where
+  -- the header at a place, and the headers behind it
+  pub header-at : {n kind : ℕ} {t : Bool} → 6 ≤ length s - at → 6 ≤ n → n ≤ length s - at → n ≡ leAt 4 (drop at s) → kind ≡ leAt 2 (drop (at + 4) s)
+      → (eqb kind 2 && leb 18 n) ≡ t
+      → descriptorIn 0 (drop at s) ≡ cond t (Found (leAt 8 (drop (at + 6) s)) (leAt 4 (drop (at + 14) s))) (descriptorIn 0 (drop (at + n) s))
+  header-at h j k e f g =
+      front (drop at s) (simp length-drop h) (rw e at j) (simp length-drop (rw e at k)) ∙ simp (drop-drop, ← e, ← f, g)
+
+  -- a header that is broken
+  pub cut-at : length s - at < 6 → descriptorIn 0 (drop at s) ≡ Missing
+  cut-at h = broken-front (drop at s) (simp (length-drop, lt-ltb (length s - at) 6 h))
+
+  pub small-at : {n : ℕ} → 6 ≤ length s - at → n ≡ leAt 4 (drop at s) → n < 6 → descriptorIn 0 (drop at s) ≡ Missing
+  small-at {n} h e k = broken-front (drop at s) (simp (length-drop, le-ltb (length s - at) 6 h, ← e, lt-ltb n 6 k))
+
+  pub long-at : {n : ℕ} → 6 ≤ length s - at → n ≡ leAt 4 (drop at s) → 6 ≤ n → length s - at < n → descriptorIn 0 (drop at s) ≡ Missing
+  long-at {n} h e j k = broken-front (drop at s) (simp (length-drop, le-ltb (length s - at) 6 h, ← e, le-ltb n 6 j, lt-ltb (length s - at) n k))

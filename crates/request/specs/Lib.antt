@@ -1,0 +1,4 @@
+pub mod Headers
+pub mod Batch
+pub mod Transaction
+pub mod FedAuth

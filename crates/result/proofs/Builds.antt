@@ -1,0 +1,87 @@
+-- What the builder answers and leaves, from the measure of a script and what was written. Assumes nothing.
+use mathlib.Core.Path.{_≡_, refl, sym, ap, _∙_}
+use mathlib.Core.Bool.{true, false, false≢true}
+use mathlib.Core.List.{List, [], _∷_, _++_, reverse}
+use Prim.Native.Nat.{ℕ, _+_, _%_, _≤_, _<_}
+use native.Mathlib.Omega.{arith}
+use lib.Dec.{eqb}
+use lib.ListN.{length}
+use borrow.Author.Tests.{eq-eqb, ne-eqb, eqb-true, lt-ltb, le-ltb, le-leb}
+use Rattle.wire.specs.Le.{le}
+use Rattle.wire.specs.Be.{be}
+use Rattle.wire.specs.Over.{Wrote, overwrite}
+use Rattle.wire.proofs.Le.{le-mod}
+use Rattle.wire.proofs.Over.{then}
+use Rattle.packet.specs.Reply.{packetOf, replyHeader}
+use Rattle.packet.proofs.Sizes.{length-packet}
+use Rattle.result.specs.declared.Built.the-variants.{Written, Refused}
+use Rattle.result.specs.declared.Measure.the-variants as measure
+use Rattle.result.specs.Emission.{pieces, bytesIn, replyOf}
+use Rattle.result.specs.Refusal.{refusalOf, builtOf, bufferOf}
+use Rattle.result.specs.declared.Room.the-variants.{Bytes, Denied}
+use Rattle.result.specs.Room.{measureOf, isRoom}
+use Rattle.result.proofs.Turns.{by-test}
+
+module _ (s : List ℕ) (buf : List ℕ) where
+  -- a refused script
+  module _ (f : ℕ) (e : measureOf s ≡ measure.Refused f) where
+    is-refused : eqb (refusalOf s) 0 ≡ false
+    unfolding measureOf
+    is-refused = by-test (eqb (refusalOf s) 0) (λ t. let g = rw t at e in let z : _≡_ {A = ℕ} 0 1 = cc in absurd (omega arith)) (λ t. t)
+
+    number-is : refusalOf s ≡ f
+    unfolding measureOf
+    number-is = let g = rw is-refused at e in cc
+
+    pub room-refused : isRoom s (Denied f) ≡ true
+    room-refused = rw (is-refused, number-is, eq-eqb f f refl)
+
+    pub refused-answer : Refused f ≡ builtOf s (length buf)
+    unfolding builtOf
+    refused-answer = rw (is-refused, number-is)
+
+    pub refused-buffer : buf ≡ bufferOf s buf
+    unfolding bufferOf
+    refused-buffer = rw (← refused-answer)
+
+  -- a script of a size
+  module _ (n : ℕ) (e : measureOf s ≡ measure.Size n) where
+    is-accepted : eqb (refusalOf s) 0 ≡ true
+    unfolding measureOf
+    is-accepted = by-test (eqb (refusalOf s) 0) (λ t. t) (λ t. let g = rw t at e in let z : _≡_ {A = ℕ} 0 1 = cc in absurd (omega arith))
+
+    size-is : length (replyOf s) ≡ n
+    unfolding measureOf
+    size-is = let g = rw is-accepted at e in cc
+
+    pub room-size : isRoom s (Bytes n) ≡ true
+    room-size = rw (is-accepted, size-is, le-leb n n (omega arith), le-leb n (n + 32) (omega arith))
+
+    pub short-answer : length buf < n → Refused 20 ≡ builtOf s (length buf)
+    unfolding builtOf
+    short-answer h = rw (is-accepted, size-is, lt-ltb (length buf) n h)
+
+    pub short-buffer : length buf < n → buf ≡ bufferOf s buf
+    unfolding bufferOf
+    short-buffer h = rw (← short-answer h)
+
+    pub written-answer : n ≤ length buf → Written n ≡ builtOf s (length buf)
+    unfolding builtOf
+    written-answer h = rw (is-accepted, size-is, le-ltb (length buf) n h)
+
+    header-is : replyHeader (n % 65536) ≡ replyHeader n
+    unfolding replyHeader be
+    header-is = rw (le-mod 2 n)
+
+    reply-is : replyHeader (n % 65536) ++ bytesIn (pieces s) ≡ replyOf s
+    unfolding replyOf packetOf
+    reply-is =
+        let long : n ≡ 8 + length (bytesIn (pieces s)) = sym size-is ∙ length-packet (bytesIn (pieces s)) in
+        header-is′ long
+      where
+        header-is′ : n ≡ 8 + length (bytesIn (pieces s)) → replyHeader (n % 65536) ++ bytesIn (pieces s) ≡ replyHeader (8 + length (bytesIn (pieces s))) ++ bytesIn (pieces s)
+        header-is′ l = ap (λ (x : List ℕ). x ++ bytesIn (pieces s)) (header-is ∙ ap replyHeader l)
+
+    pub written-buffer : {m k : List ℕ} {at to : ℕ} → n ≤ length buf → Wrote buf 0 (replyHeader (n % 65536)) m at → Wrote m at (bytesIn (pieces s)) k to → k ≡ bufferOf s buf
+    unfolding bufferOf
+    written-buffer h w v = rw (← written-answer h) (then w v .bytes ∙ ap (overwrite buf 0) reply-is)

@@ -1,0 +1,9 @@
+pub mod Cases
+pub mod Sizes
+pub mod Aheads
+pub mod Turns
+pub mod Values
+pub mod Walks
+pub mod Replies
+pub mod Writes
+pub mod Builds

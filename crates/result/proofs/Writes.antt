@@ -1,0 +1,155 @@
+-- A turn of the loops that write: what is still to be written, and one record less of it. Assumes nothing.
+use mathlib.Core.Path.{_≡_, refl, sym, ap, _∙_}
+use mathlib.Core.Bool.{Bool, true, false, cond}
+use mathlib.Core.List.{List, [], _∷_, _++_, append-assoc, append-nil}
+use Prim.Native.Nat.{ℕ, zero, suc, _+_, _-_, _≤_, min}
+use native.Mathlib.Nat.{add-sub-cancel-left}
+use native.Mathlib.Omega.{arith}
+use lib.Dec.{eqb}
+use lib.ListN.{length, take, drop}
+use borrow.Author.Tests.{eq-eqb, ne-eqb}
+use Rattle.wire.specs.Le.{le}
+use Rattle.wire.specs.Over.{Wrote, overwrite}
+use Rattle.wire.specs.Fields.{Field, word, raw, flat}
+use Rattle.wire.proofs.Over.{then, wrote-as, ended, length-over}
+use Rattle.wire.proofs.Fields.{then-fields}
+use Rattle.token.specs.Tokens.{Token, metadata, cell, Sent, long, joined, bytesOf, putChunks}
+use Rattle.script.specs.declared.Found.the-variants.{Record, Cut, End}
+use Rattle.script.specs.Records.{Item, records, recordAt}
+use Rattle.script.proofs.Walk.{turn, cuts, ends}
+use Rattle.result.specs.Runs.{ahead}
+use Rattle.result.specs.Emission.{Piece, told, classified, columnToken, columnPieces, piecesOf, rowsAfter, emitFrom, bytesIn, doneToken, lastStatus}
+use Rattle.result.specs.Inner.{GoesOn}
+use Rattle.result.proofs.Sizes.{bytes-none, bytes-told, bytes-classified, bytes-cat}
+
+-- With xs still to be written at the place to of the buffer m, ys are written at the place at of the buffer l: whoever
+-- writes xs there has written ys here
+abbrev pub Owes : List ℕ → ℕ → List ℕ → List ℕ → ℕ → List ℕ → Type 0
+Owes l at ys m to xs = (n : List ℕ) (end : ℕ) → Wrote m to xs n end → Wrote l at ys n end
+
+-- a part of what is owed was written
+pub owes-less : (l : List ℕ) (at : ℕ) (ys m : List ℕ) (to : ℕ) (xs rest : List ℕ) {k : List ℕ} {next : ℕ} {part : List ℕ} → Owes l at ys m to xs → xs ≡ part ++ rest → Wrote m to part k next
+    → Owes l at ys k next rest
+owes-less l at ys m to xs rest f e w n end v = f n end (wrote-as (then w v) (sym e))
+
+-- the last of it was
+pub owes-last : (l : List ℕ) (at : ℕ) (ys m : List ℕ) (to : ℕ) (xs : List ℕ) {k : List ℕ} {next : ℕ} {part : List ℕ} → Owes l at ys m to xs → xs ≡ part → Wrote m to part k next → Wrote l at ys k next
+owes-last l at ys m to xs f e w = f _ _ (wrote-as w (sym e))
+
+-- nothing is owed any more
+pub wrote-nothing : (m : List ℕ) (to : ℕ) → to ≤ length m → Wrote m to [] m to
+unfolding overwrite
+wrote-nothing m to h = record { place = omega arith; bytes = refl }
+
+-- a place that a writer answers lies in the buffer, which keeps its length
+pub place-in : {l m : List ℕ} {at to : ℕ} {xs : List ℕ} → Wrote l at xs m to → to ≤ length m
+place-in {l} {m} {at} {xs = xs} w =
+    let long : length m ≡ length l = ap length (w .bytes) ∙ length-over xs l at in
+    omega (arith, w .place)
+
+-- one token, and two
+pub put-one : (t : Token Sent) {l m : List ℕ} {at to : ℕ} → Wrote l at (bytesOf t) m to → Wrote l at (bytesIn (told t ∷ [])) m to
+put-one t w = wrote-as w (sym (bytes-told t [] ∙ rw (bytes-none, append-nil (bytesOf t))))
+
+pub put-two : (t u : Token Sent) {l m n : List ℕ} {at to end : ℕ} → Wrote l at (bytesOf t) m to → Wrote m to (bytesOf u) n end → Wrote l at (bytesIn (told t ∷ told u ∷ [])) n end
+put-two t u w v = wrote-as (then w (put-one u v)) (sym (bytes-told t (told u ∷ [])))
+
+-- ---- columns and chunks
+
+module _ (s : List ℕ) (at : ℕ) where
+  -- the records of a kind that stand next: one more, or none
+  ahead-more : (k st n : ℕ) → recordAt s at ≡ Record k st n → ahead k (records (drop at s)) ≡ take (st + n - st) (drop st s) ∷ ahead k (records (drop (st + n) s))
+  unfolding ahead
+  ahead-more k st n e = rw (turn s at e, eq-eqb k k refl, add-sub-cancel-left st n)
+
+  pub ahead-other : (k : ℕ) {j st n : ℕ} → recordAt s at ≡ Record j st n → (j ≡ k → ⊥) → ahead k (records (drop at s)) ≡ []
+  unfolding ahead
+  ahead-other k e f = rw (turn s at e, ne-eqb _ _ f)
+
+  pub ahead-cut : (k : ℕ) → recordAt s at ≡ Cut → ahead k (records (drop at s)) ≡ []
+  unfolding ahead
+  ahead-cut k e = rw (cuts s at e)
+
+  pub ahead-end : (k : ℕ) → recordAt s at ≡ End → ahead k (records (drop at s)) ≡ []
+  unfolding ahead
+  ahead-end k e = rw (ends s at e)
+
+  abbrev pub columnsLeft : List ℕ
+  columnsLeft = bytesIn (columnPieces (ahead 2 (records (drop at s))))
+
+  abbrev pub chunksLeft : List ℕ
+  chunksLeft = flat (putChunks (ahead 6 (records (drop at s))) [])
+
+  pub columns-more : (st n : ℕ) → recordAt s at ≡ Record 2 st n
+      → columnsLeft ≡ bytesOf (columnToken (take (st + n - st) (drop st s))) ++ bytesIn (columnPieces (ahead 2 (records (drop (st + n) s))))
+  columns-more st n e =
+      ap (λ (ps : List (List ℕ)). bytesIn (columnPieces ps)) (ahead-more 2 st n e)
+      ∙ bytes-told (columnToken (take (st + n - st) (drop st s))) (columnPieces (ahead 2 (records (drop (st + n) s))))
+
+  pub columns-none : ahead 2 (records (drop at s)) ≡ [] → columnsLeft ≡ []
+  columns-none e = ap (λ (ps : List (List ℕ)). bytesIn (columnPieces ps)) e ∙ bytes-none
+
+  pub chunks-more : (st n : ℕ) → recordAt s at ≡ Record 6 st n
+      → chunksLeft ≡ flat (word 4 (length (take (st + n - st) (drop st s))) ∷ raw (take (st + n - st) (drop st s)) ∷ []) ++ flat (putChunks (ahead 6 (records (drop (st + n) s))) [])
+  unfolding flat
+  chunks-more st n e =
+      let p = take (st + n - st) (drop st s) in
+      let rest = flat (putChunks (ahead 6 (records (drop (st + n) s))) []) in
+      ap (λ (ps : List (List ℕ)). flat (putChunks ps [])) (ahead-more 6 st n e)
+      ∙ rw (append-nil p) (sym (append-assoc (le 4 (length p)) p rest))
+
+  pub chunks-none : ahead 6 (records (drop at s)) ≡ [] → chunksLeft ≡ le 4 0
+  unfolding flat
+  chunks-none e = ap (λ (ps : List (List ℕ)). flat (putChunks ps [])) e ∙ append-nil (le 4 0)
+
+-- ---- sets and cells
+
+-- the beginning of a set
+pub put-begins : (class : List ℕ) (cs : List (List ℕ)) {l m n k : List ℕ} {at a b to : ℕ} → Wrote l at (bytesOf (metadata (length cs))) m a → Wrote m a (bytesIn (columnPieces cs)) n b → Wrote n b class k to
+    → Wrote l at (bytesIn (told (metadata (length cs)) ∷ columnPieces cs ++ (classified class ∷ []))) k to
+put-begins class cs w v u =
+    wrote-as (then w (then v u))
+    (sym (bytes-told (metadata (length cs)) (columnPieces cs ++ (classified class ∷ []))
+    ∙ rw (bytes-cat (columnPieces cs) (classified class ∷ []), bytes-classified class [], bytes-none, append-nil class)))
+
+-- a cell in chunks
+pub put-long : (cs : List (List ℕ)) {l m n : List ℕ} {at a to : ℕ} → Wrote l at (le 8 (length (joined cs))) m a → Wrote m a (flat (putChunks cs [])) n to → Wrote l at (bytesOf (cell (long cs))) n to
+unfolding bytesOf flat
+put-long cs w v = then w v
+
+-- a token before pieces
+pub put-behind : (t : Token Sent) (ps : List Piece) {l m n : List ℕ} {at to end : ℕ} → Wrote l at (bytesOf t) m to → Wrote m to (bytesIn ps) n end → Wrote l at (bytesIn (told t ∷ ps)) n end
+put-behind t ps w v = wrote-as (then w v) (sym (bytes-told t ps))
+
+-- pieces before pieces
+pub put-pieces : (ps qs : List Piece) {l m n : List ℕ} {at to end : ℕ} → Wrote l at (bytesIn ps) m to → Wrote m to (bytesIn qs) n end → Wrote l at (bytesIn (ps ++ qs)) n end
+put-pieces ps qs w v = wrote-as (then w v) (sym (bytes-cat ps qs))
+
+-- no pieces
+pub put-none : (m : List ℕ) (to : ℕ) → to ≤ length m → Wrote m to (bytesIn []) m to
+put-none m to h = wrote-as (wrote-nothing m to h) (sym bytes-none)
+
+-- ---- the records from a place on
+
+module _ (s : List ℕ) (at rows : ℕ) where
+  abbrev pub recordsLeft : List ℕ
+  recordsLeft = bytesIn (emitFrom rows (records (drop at s)))
+
+  pub records-more : (k st n next : ℕ) → recordAt s at ≡ Record k st n → GoesOn s (st + n) next
+      → recordsLeft ≡ bytesIn (piecesOf rows k (take (st + n - st) (drop st s)) (records (drop (st + n) s))) ++ bytesIn (emitFrom (rowsAfter rows k) (records (drop next s)))
+  unfolding emitFrom
+  records-more k st n next e g =
+      rw (turn s at e, add-sub-cancel-left st n)
+      (bytes-cat (piecesOf rows k (take n (drop st s)) (records (drop (st + n) s))) (emitFrom (rowsAfter rows k) (records (drop (st + n) s)))
+      ∙ ap (λ (ps : List Piece). bytesIn (piecesOf rows k (take n (drop st s)) (records (drop (st + n) s))) ++ bytesIn ps) (g .same (rowsAfter rows k)))
+
+  last-is : emitFrom rows (records (drop at s)) ≡ told (doneToken lastStatus rows) ∷ [] → recordsLeft ≡ bytesOf (doneToken lastStatus rows)
+  last-is e = ap bytesIn e ∙ bytes-told (doneToken lastStatus rows) [] ∙ rw (bytes-none, append-nil (bytesOf (doneToken lastStatus rows)))
+
+  pub records-cut : recordAt s at ≡ Cut → recordsLeft ≡ bytesOf (doneToken lastStatus rows)
+  unfolding emitFrom
+  records-cut e = last-is (rw (cuts s at e))
+
+  pub records-end : recordAt s at ≡ End → recordsLeft ≡ bytesOf (doneToken lastStatus rows)
+  unfolding emitFrom
+  records-end e = last-is (rw (ends s at e))

@@ -1,0 +1,89 @@
+-- `result::put_pieces` meets its contract. Assumes nothing.
+use mathlib.Core.Path.{_≡_, sym, _∙_}
+use native.Mathlib.Omega.{arith}
+use denote.Ref.{now}
+use Prim.Native.Nat.{ℕ, _+_, _≤_}
+use lib.ListN.{length}
+use mathlib.Core.List.{List}
+use Rattle.script.specs.declared.Found.the-variants.{Record}
+use Rattle.script.specs.Records.{recordAt}
+use Rattle.script.proofs.Walk
+use Rattle.result.proofs.Replies.{pieces-first, pieces-cut, pieces-end}
+use Rattle.result.proofs.Writes.{put-none}
+use borrow.Author.Needs.{needs}
+use Rattle.result.proofs.put_pieces.Statement.{statement}
+use Rattle.result.proofs.put_pieces.Tie as tie
+
+-- the first record, and where it lies
+module _ (c : tie.After-start) where
+  abbrev s : List ℕ
+  s = now (c .before .before .before .before .before .args .s)
+
+  abbrev from : ℕ
+  from = c .start .given .0 .1 .0
+
+  abbrev size : ℕ
+  size = c .start .given .0 .1 .1 .0
+
+  found : recordAt s 0 ≡ Record (c .start .given .0 .0) from size
+  found = sym (c .before .before .record-at .ensures) ∙ c .start .given .1
+
+  lies : (from ≡ 0 + 6) × (from + size ≤ length s)
+  lies = Walk.lies s 0 found
+
+record-at-requires : tie.Need-record-at-requires
+record-at-requires c κs = search needs
+
+enum-known-start : tie.Need-enum-known-start
+enum-known-start c = search needs
+
+add-next : tie.Need-add-next
+add-next c = omega (arith, lies (c .before))
+
+sub-put-sets : tie.Need-sub-put-sets
+sub-put-sets c = search needs
+
+part-put-sets-start : tie.Need-part-put-sets-start
+part-put-sets-start c = omega (arith, lies (c .before .before))
+
+part-put-sets-end : tie.Need-part-put-sets-end
+part-put-sets-end c = omega (arith, lies (c .before .before))
+
+put-sets-requires : tie.Need-put-sets-requires
+put-sets-requires c κs = (c .before .before .before .before .before .before .before .before .pre, lies (c .before .before .before) .1)
+
+enum-told : tie.Need-enum-told
+enum-told c = search needs
+
+enum-told-2 : tie.Need-enum-told-2
+enum-told-2 c = search needs
+
+same-length : tie.Need-same-length
+same-length c = search needs
+
+returns : tie.Need-returns
+returns c = let r = c .before .before .before .before .before .before in rw (pieces-first (s r) _ (from r) (size r) (found r)) (c .before .before .put-sets .ensures)
+
+returns-2 : tie.Need-returns-2
+returns-2 c = let a = c .before .before .before .before .before .args in rw (pieces-cut (now (a .s)) (sym (c .before .before .record-at .ensures) ∙ c .enum-told .given .1)) (put-none (now (a .buf)) (a .at) (c .before .before .before .before .before .pre))
+
+returns-3 : tie.Need-returns-3
+returns-3 c = let a = c .before .before .before .before .before .args in rw (pieces-end (now (a .s)) (sym (c .before .before .record-at .ensures) ∙ c .enum-told2 .given .1)) (put-none (now (a .buf)) (a .at) (c .before .before .before .before .before .pre))
+
+pub put-pieces-spec : {M : Type 1} → statement M
+put-pieces-spec =
+    tie.close
+    (tie.spec
+    record-at-requires
+    enum-known-start
+    add-next
+    sub-put-sets
+    part-put-sets-start
+    part-put-sets-end
+    put-sets-requires
+    enum-told
+    enum-told-2
+    same-length
+    returns
+    returns-2
+    returns-3)
