@@ -1,0 +1,113 @@
+-- How many bytes the replies' parts have. Assumes nothing.
+use Prim.Native.Nat.{ℕ, _+_, _-_, _<_, _≤_}
+use mathlib.Core.Path.{_≡_, refl, sym, ap, _∙_}
+use mathlib.Core.Bool.{Bool, true, false, cond, not}
+use mathlib.Core.List.{List, [], _∷_, _++_}
+use native.Mathlib.Omega.{arith}
+use lib.ListN.{length, length-drop, length-append}
+use native.Mathlib.Nat.{add-zero, zero-add}
+use borrow.Author.Tests.{lt-ltb, le-ltb}
+use Rattle.wire.specs.Le.{le, leAt}
+use Rattle.wire.specs.Be.{be}
+use Rattle.wire.specs.Fields.{flat}
+use Rattle.wire.proofs.Be.{length-be}
+use Rattle.script.specs.Records.{Item}
+use Rattle.wire.proofs.Fields.{size-word, size-raw}
+use Rattle.token.specs.Tokens.{usVarchar, done, message, bytesOf}
+use Rattle.response.specs.Login.{feature, loginAck, wide, fedauthInfo}
+use Rattle.response.specs.Routing.{target, plainRoute, databaseRoute}
+use Rattle.response.specs.Lists.{itemBytes, listBytes, featureExtAck}
+use Rattle.response.specs.Sizes.{itemSize, Same}
+use Rattle.response.specs.Replies.{errorFields, featureAck, routingAck, routingTokens}
+
+pub size-nil : length (flat []) ≡ 0
+unfolding flat
+size-nil = refl
+
+pub target-size : (host : List ℕ) (port : ℕ) → length (flat (target host port [])) ≡ 5 + length host
+target-size host port = simp (size-word, size-raw, size-nil) (omega arith)
+
+pub database-target-size : (host : List ℕ) (port : ℕ) (database : List ℕ) → length (flat (target host port (usVarchar database []))) ≡ 7 + length host + length database
+database-target-size host port database = simp (size-word, size-raw, size-nil) (omega arith)
+
+pub plain-size : (host : List ℕ) (port : ℕ) → length (flat (plainRoute host port)) ≡ 13 + length host
+plain-size host port = simp (size-word, size-raw, size-nil) (omega arith)
+
+pub database-size : (host : List ℕ) (port : ℕ) (database : List ℕ) → length (flat (databaseRoute host port database)) ≡ 15 + length host + length database
+database-size host port database = simp (size-word, size-raw, size-nil) (omega arith)
+
+pub feature-size : (p : List ℕ) → length (flat (feature p [])) ≡ 5 + (length p - 1)
+feature-size p = simp (size-word, size-raw, size-nil, length-drop) (omega arith)
+
+length-cond : (b : Bool) (x y : List ℕ) → length (cond b x y) ≡ cond b (length x) (length y)
+length-cond true x y = refl
+length-cond false x y = refl
+
+pub item-size : (host : List ℕ) (port k : ℕ) (p : List ℕ) → length (itemBytes host port k p) ≡ itemSize host k p
+unfolding itemBytes itemSize
+item-size host port k p = simp (length-cond, plain-size, database-size, feature-size)
+
+-- ---- tokens
+
+pub done-size : (status command rows : ℕ) → length (bytesOf (done status command rows)) ≡ 13
+unfolding bytesOf
+done-size status command rows = simp (size-word, size-nil)
+
+pub message-size : (k n s c : ℕ) (t v p : List ℕ) (l : ℕ) → length (bytesOf (message k n s c t v p l)) ≡ 17 + length t + length v + length p
+unfolding bytesOf
+message-size k n s c t v p l = simp (size-word, size-raw, size-nil) (omega arith)
+
+pub error-size : (m : List ℕ) → length (flat (errorFields m)) ≡ 17 + length m
+error-size m = simp (size-word, size-raw, size-nil, length-be) (omega arith)
+
+pub info-size : (sts spn : List ℕ) → length (flat (fedauthInfo sts spn)) ≡ 27 + length sts + length spn
+info-size sts spn = simp (size-word, size-raw, size-nil) (omega arith)
+
+pub login-ack-size : length loginAck ≡ 90
+unfolding loginAck wide flat le be
+login-ack-size = refl
+
+-- the acknowledgement of features
+features-size : (rs : List Item) → length (featureExtAck rs) ≡ 2 + length (listBytes [] 0 rs)
+unfolding featureExtAck
+features-size rs = simp (size-word, size-raw, size-nil) (omega arith)
+
+-- of FEDAUTH, and of enhanced routing where it is sent
+pub fedauth-ack : 0xAE ∷ 0x02 ∷ 0 ∷ 0 ∷ 0 ∷ 0 ∷ 0xFF ∷ [] ≡ featureAck (0x02 ∷ [])
+unfolding featureAck featureExtAck listBytes itemBytes flat le leAt
+fedauth-ack = refl
+
+fedauth-ack-size : length (featureAck (0x02 ∷ [])) ≡ 7
+fedauth-ack-size = sym (ap length fedauth-ack)
+
+pub routing-ack-sent : (ack : ℕ) → ack < 256 → length (routingAck true ack) ≡ 8
+unfolding routingAck featureAck featureExtAck listBytes itemBytes flat le
+routing-ack-sent ack h = simp (lt-ltb _ _ h)
+
+pub routing-ack-none : (ack : ℕ) → 256 ≤ ack → routingAck true ack ≡ []
+unfolding routingAck
+routing-ack-none ack h = simp (le-ltb _ _ h)
+
+-- sent before the routes or behind them
+acks-size : (before : Bool) (ack : ℕ) → length (routingAck before ack) + length (routingAck (not before) ack) ≡ length (routingAck true ack)
+unfolding routingAck
+acks-size true ack = add-zero _
+acks-size false ack = zero-add _
+
+tokens-size : (host : List ℕ) (port : ℕ) (rs : List Item) (login : Bool) (ack : ℕ) (before : Bool)
+    → length (routingTokens host port rs login ack before) ≡ length (cond login loginAck []) + length (routingAck true ack) + length (listBytes host port rs) + 13
+unfolding routingTokens
+tokens-size host port rs login ack before = simp (length-append, done-size) (omega (arith, acks-size before ack))
+
+-- ---- sizes that were worked out, as far as they count
+
+pub features-same : (rs : List Item) (n : ℕ) → Same n (length (listBytes [] 0 rs)) → Same (2 + n) (length (featureExtAck rs))
+features-same rs n e = rw (features-size rs) (omega arith)
+
+pub challenge-same : (sts spn : List ℕ) (n : ℕ) → Same n (length (flat (fedauthInfo sts spn))) → Same (15 + n) (8 + length (featureAck (0x02 ∷ []) ++ flat (fedauthInfo sts spn)))
+challenge-same sts spn n e = rw (length-append (featureAck (0x02 ∷ [])) (flat (fedauthInfo sts spn)), fedauth-ack-size) (omega arith)
+
+pub routed-same : (host : List ℕ) (port : ℕ) (rs : List Item) (login : Bool) (ack : ℕ) (before : Bool) {m : ℕ} (n : ℕ)
+    → m ≡ length (cond login loginAck []) + length (routingAck true ack) → Same n (length (listBytes host port rs))
+    → Same (8 + m + n + 13) (8 + length (routingTokens host port rs login ack before))
+routed-same host port rs login ack before n q e = rw (tokens-size host port rs login ack before) (omega arith)

@@ -1,0 +1,51 @@
+-- A turn of the writer over a list's records. Assumes nothing.
+use Prim.Native.Nat.{ℕ, _+_, _-_, _≤_, min}
+use mathlib.Core.Path.{_≡_, refl, sym, ap, _∙_}
+use mathlib.Core.List.{List, [], _∷_, _++_}
+use native.Mathlib.Nat.{add-sub-cancel-left}
+use native.Mathlib.Omega.{arith}
+use lib.ListN.{length, take, drop}
+use Rattle.wire.specs.Over.{Wrote}
+use Rattle.wire.proofs.Over.{then, length-over}
+use Rattle.script.specs.declared.Found.the-variants.{Record, Cut, End}
+use Rattle.script.specs.Records.{Item, item, cut, records, recordAt}
+use Rattle.script.proofs.Walk.{turn, cuts, ends}
+use Rattle.response.specs.Lists.{itemBytes, listBytes}
+use Rattle.response.proofs.Writing.{nothing}
+
+-- of a list s, the records before a place are written: whoever writes the rest behind them has written the whole
+pub record Putting (host : List ℕ) (port : ℕ) (s old : List ℕ) (at from : ℕ) (new : List ℕ) (place : ℕ) : Type 0 where
+  pub inside : place ≤ length new
+  pub long : length new ≡ length old
+  pub rest : (last : List ℕ) (end : ℕ) → Wrote new place (listBytes host port (records (drop from s))) last end
+      → Wrote old at (listBytes host port (records s)) last end
+
+module _ (host : List ℕ) (port : ℕ) (s old : List ℕ) (at : ℕ) where
+  pub putting-start : {place : ℕ} → place ≡ min at (length old) → Putting host port s old at 0 old place
+  putting-start e = record { inside = omega arith; long = refl; rest = λ last end w. then (nothing old at e) w }
+
+  module _ (from : ℕ) (new : List ℕ) (place : ℕ) (m : Putting host port s old at from new place) where
+    all : listBytes host port (records (drop from s)) ≡ [] → Wrote old at (listBytes host port (records s)) new place
+    all e = m .rest new place (rw e (nothing new place (omega (arith, m .inside))))
+
+    pub putting-cut : recordAt s from ≡ Cut → Wrote old at (listBytes host port (records s)) new place
+    unfolding listBytes
+    putting-cut e = all (rw (cuts s from e))
+
+    pub putting-end : recordAt s from ≡ End → Wrote old at (listBytes host port (records s)) new place
+    unfolding listBytes
+    putting-end e = all (rw (ends s from e))
+
+    -- a record, whose payload is the slice from its start on
+    pub putting-next : (k st len : ℕ) {next : List ℕ} {to : ℕ} → recordAt s from ≡ Record k st len
+        → Wrote new place (itemBytes host port k (take (st + len - st) (drop st s))) next to → Putting host port s old at (st + len) next to
+    unfolding listBytes
+    putting-next k st len {next} {to} e w =
+        let bytes : List ℕ = itemBytes host port k (take (st + len - st) (drop st s)) in
+        let long : length next ≡ length new = ap length (w .bytes) ∙ length-over bytes new place in
+        let here : records (drop from s) ≡ item k (take (st + len - st) (drop st s)) ∷ records (drop (st + len) s) = rw (add-sub-cancel-left st len) (turn s from e) in
+        record {
+          inside = omega (arith, w .place);
+          long = long ∙ m .long;
+          rest = λ last end v. m .rest last end (rw here (then w v));
+        }

@@ -1,0 +1,103 @@
+-- `response::faults::measure` meets its contract. The loop's invariant: the place is in the list, and what is left from it on
+-- refuses as the whole list does and has the size that the whole has more than the size so far, as far as it counts.
+-- Assumes nothing.
+use Rattle.script.proofs.Walk.{lies}
+use Rattle.response.proofs.Measuring.{Measuring, measured-cut, measured-end, measured-bad, measured-next}
+use Prim.Native.Nat.{_-_, _≤_}
+use mathlib.Core.Path.{refl, sym, _∙_}
+use lib.ListN.{length}
+use native.Mathlib.Omega.{arith}
+use borrow.Author.Needs.{needs}
+use Rattle.response.proofs.faults.measure.Statement.{statement}
+use Rattle.response.proofs.faults.measure.Tie as tie
+
+abbrev Inv-loop : tie.InvT-loop
+Inv-loop of list host at₀ size₀ at size = (at ≤ length list) × (size ≤ 65536) × Measuring of host list at size
+
+abbrev μ-loop : tie.MeasureT-loop
+μ-loop of list host at₀ size₀ at size = length list - at
+
+loop-holds : tie.Need-loop-holds Inv-loop μ-loop
+loop-holds c = (search needs, search needs, record { fault = refl; long = λ port. omega arith })
+
+record-at-requires : tie.Need-record-at-requires Inv-loop μ-loop
+record-at-requires c κs = search needs
+
+enum-told : tie.Need-enum-told Inv-loop μ-loop
+enum-told c = search needs
+
+returns : tie.Need-returns Inv-loop μ-loop
+returns c = let r = c .before .before in let m = r .before in
+    measured-cut _ _ _ _ _ (m .loop .inv .2) (sym (r .record-at .ensures) ∙ c .enum-told .given .1)
+
+enum-told-2 : tie.Need-enum-told-2 Inv-loop μ-loop
+enum-told-2 c = search needs
+
+returns-2 : tie.Need-returns-2 Inv-loop μ-loop
+returns-2 c = let r = c .before .before in let m = r .before in
+    measured-end _ _ _ _ _ (m .loop .inv .2) (sym (r .record-at .ensures) ∙ c .enum-told2 .given .1) (m .loop .inv .1)
+
+enum-known-kind : tie.Need-enum-known-kind Inv-loop μ-loop
+enum-known-kind c = search needs
+
+add-next : tie.Need-add-next Inv-loop μ-loop
+add-next c = let r = c .before in omega (arith, lies _ _ (sym (r .before .before .record-at .ensures) ∙ r .kind .given .1))
+
+sub-payload : tie.Need-sub-payload Inv-loop μ-loop
+sub-payload c = search needs
+
+part-payload-start : tie.Need-part-payload-start Inv-loop μ-loop
+part-payload-start c = let r = c .before in omega (arith, lies _ _ (sym (r .before .before .record-at .ensures) ∙ r .kind .given .1))
+
+part-payload-end : tie.Need-part-payload-end Inv-loop μ-loop
+part-payload-end c = let r = c .before in omega (arith, lies _ _ (sym (r .before .before .record-at .ensures) ∙ r .kind .given .1))
+
+item-fault-requires : tie.Need-item-fault-requires Inv-loop μ-loop
+item-fault-requires c κs = search needs
+
+returns-3 : tie.Need-returns-3 Inv-loop μ-loop
+returns-3 c = let r = c .before .before .before .before in
+    measured-bad _ _ _ _ _ (r .before .before .before .loop .inv .2) _ _ _ _ (sym (r .before .before .record-at .ensures) ∙ r .kind .given .1) (c .before .item-fault .ensures) (c .if1 .taken)
+
+item-size-requires : tie.Need-item-size-requires Inv-loop μ-loop
+item-size-requires c κs = search needs
+
+add-capped : tie.Need-add-capped Inv-loop μ-loop
+add-capped c = search needs
+
+capped-requires : tie.Need-capped-requires Inv-loop μ-loop
+capped-requires c κs = search needs
+
+loop-less : tie.Need-loop-less Inv-loop μ-loop
+loop-less c = let r = c .before .before .before .before .before .before in omega (arith, lies _ _ (sym (r .before .before .record-at .ensures) ∙ r .kind .given .1))
+
+loop-again : tie.Need-loop-again Inv-loop μ-loop
+loop-again c = let t = c .before .before in
+    let r = t .before .before .before .before in
+    let e = sym (r .before .before .record-at .ensures) ∙ r .kind .given .1 in
+    (lies _ _ e .1, search needs, measured-next _ _ _ _ _ (r .before .before .before .loop .inv .2) _ _ _ _ e (t .before .item-fault .ensures) (c .before .item-size .result) (t .if1 .left) (c .before .item-size .ensures .0) (c .capped .ensures))
+
+pub measure-spec : {M : Type 1} → statement M
+measure-spec =
+    tie.close
+    (tie.spec
+    Inv-loop
+    μ-loop
+    loop-holds
+    record-at-requires
+    enum-told
+    returns
+    enum-told-2
+    returns-2
+    enum-known-kind
+    add-next
+    sub-payload
+    part-payload-start
+    part-payload-end
+    item-fault-requires
+    returns-3
+    item-size-requires
+    add-capped
+    capped-requires
+    loop-less
+    loop-again)

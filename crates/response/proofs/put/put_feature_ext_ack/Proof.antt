@@ -1,0 +1,40 @@
+-- `response::put::put_feature_ext_ack` meets its contract. Assumes nothing.
+use Rattle.wire.proofs.Over.{then}
+use Rattle.response.proofs.Writing.{alone}
+use Rattle.wire.specs.Fields.{flat}
+use Rattle.response.specs.Lists.{featureExtAck}
+use borrow.Author.Needs.{needs}
+use Rattle.response.proofs.put.put_feature_ext_ack.Statement.{statement}
+use Rattle.response.proofs.put.put_feature_ext_ack.Tie as tie
+
+put-u8-requires : tie.Need-put-u8-requires
+put-u8-requires c κs = search needs
+
+slice-aggregate-put-list : tie.Need-slice-aggregate-put-list
+slice-aggregate-put-list c = search needs
+
+put-list-requires : tie.Need-put-list-requires
+put-list-requires c κs = search needs
+
+put-u8-requires-2 : tie.Need-put-u8-requires-2
+put-u8-requires-2 c κs = search needs
+
+same-length : tie.Need-same-length
+same-length c = search needs
+
+returns : tie.Need-returns
+unfolding featureExtAck flat
+returns c = let v = c .before .before in
+    let u = v .before .before .before .before in
+    let w = u .before .before .before .before .before in then (w .put-u8 .ensures) (then (u .put-list .ensures) (alone (v .put-u82 .ensures)))
+
+pub put-feature-ext-ack-spec : {M : Type 1} → statement M
+put-feature-ext-ack-spec =
+    tie.close
+    (tie.spec
+    put-u8-requires
+    slice-aggregate-put-list
+    put-list-requires
+    put-u8-requires-2
+    same-length
+    returns)
