@@ -59,7 +59,7 @@ module _ {before fault : ℕ} (size : ℕ) (bytes buf : List ℕ) {n : ℕ} (of 
   unfolding builtOf bufferOf
   wrote h w =
       let no : refusalOf fault (length bytes) (length buf) ≡ 0 = sym is ∙ h in
-      rw no (ap Written (omega (arith, w .place, none fault (length bytes) (length buf) no .2)), w .bytes)
+      rw no (ap Written (omega (arith, w .1 .place, none fault (length bytes) (length buf) no .2)), w .0)
 
 -- a packet: its header, and its payload behind it
 module _ {before fault : ℕ} (size : ℕ) (payload buf : List ℕ) {n : ℕ} (of : before ≡ fault) (found : n ≡ refusalOf before size (length buf))

@@ -42,10 +42,10 @@ module _ (host : List ℕ) (port : ℕ) (s old : List ℕ) (at : ℕ) where
     unfolding listBytes
     putting-next k st len {next} {to} e w =
         let bytes : List ℕ = itemBytes host port k (take (st + len - st) (drop st s)) in
-        let long : length next ≡ length new = ap length (w .bytes) ∙ length-over bytes new place in
+        let long : length next ≡ length new = ap length (w .0) ∙ length-over bytes new place in
         let here : records (drop from s) ≡ item k (take (st + len - st) (drop st s)) ∷ records (drop (st + len) s) = rw (add-sub-cancel-left st len) (turn s from e) in
         record {
-          inside = omega (arith, w .place);
+          inside = omega (arith, w .1 .place);
           long = long ∙ m .long;
           rest = λ last end v. m .rest last end (rw here (then w v));
         }

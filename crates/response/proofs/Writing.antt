@@ -21,7 +21,7 @@ alone w = then w (ended w)
 -- nothing is written, at a place or at the end
 pub nothing : (l : List ℕ) (at : ℕ) {to : ℕ} → to ≡ min at (length l) → Wrote l at [] l to
 unfolding overwrite
-nothing l at e = record { place = omega arith; bytes = refl }
+nothing l at e = (refl, record { place = omega arith })
 
 -- numbers with the same k low bytes
 pub low-same : (k a b : ℕ) → a % 256 ^ k ≡ b % 256 ^ k → le k a ≡ le k b
