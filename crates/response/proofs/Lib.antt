@@ -4,4 +4,3 @@ pub mod Lengths
 pub mod Measuring
 pub mod Writing
 pub mod Putting
-pub mod Cases
