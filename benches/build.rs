@@ -1,0 +1,53 @@
+//! Places the Rust modules of docs/src for the compiler, unchanged, and names the static library
+//! to link.
+
+use std::path::{Path, PathBuf};
+use std::{env, fs};
+
+const RUST: &str = "../docs/src/mssql-mock-tds/src";
+const LIBRARY: &str = "../target/staticlib";
+const GROUPS: [&str; 3] = ["REQUEST", "LOGIN", "RESULT"];
+
+/// The modules, with the FNV-1a sums of their files as they were published.
+const MODULES: [(&str, u64); 2] =
+    [("protocol", 0x5725_866C_7A33_FA46), ("query_response", 0x12A5_0577_8FA0_5A20)];
+
+fn main() {
+    let here = PathBuf::from(env::var("CARGO_MANIFEST_DIR").unwrap());
+    let out = PathBuf::from(env::var("OUT_DIR").unwrap());
+    println!("cargo:rerun-if-changed=build.rs");
+    let declared = MODULES.map(|(module, sum)| place(&here, &out, module, sum));
+    fs::write(out.join("rust_modules.rs"), declared.concat()).unwrap();
+    link_station(&here);
+}
+
+/// Writes a copy of the module's text and answers its declaration.
+/// A copy is compiled, so that no tool that follows modules comes upon docs/src.
+fn place(here: &Path, out: &Path, module: &str, sum: u64) -> String {
+    let original = here.join(RUST).join(format!("{module}.rs"));
+    println!("cargo:rerun-if-changed={}", original.display());
+    let text = fs::read(&original).unwrap();
+    let found = fnv(&text);
+    assert_eq!(found, sum, "docs/src: {module}.rs was changed (its sum is {found:#018X})");
+    let placed = out.join(format!("{module}.rs"));
+    fs::write(&placed, text).unwrap();
+    format!("#[allow(dead_code)]\n#[path = {placed:?}]\nmod {module};\n")
+}
+
+/// Links libstation.a where a group of its exports is called.
+fn link_station(here: &Path) {
+    println!("cargo:rerun-if-env-changed=STATION_LIB_DIR");
+    if !GROUPS.iter().any(|group| env::var_os(format!("CARGO_FEATURE_{group}")).is_some()) {
+        return;
+    }
+    let folder = env::var_os("STATION_LIB_DIR").map_or_else(|| here.join(LIBRARY), PathBuf::from);
+    println!("cargo:rerun-if-changed={}", folder.join("libstation.a").display());
+    println!("cargo:rustc-link-search=native={}", folder.display());
+    println!("cargo:rustc-link-lib=static=station");
+}
+
+fn fnv(bytes: &[u8]) -> u64 {
+    bytes.iter().fold(0xCBF2_9CE4_8422_2325, |sum, byte| {
+        (sum ^ u64::from(*byte)).wrapping_mul(0x0000_0100_0000_01B3)
+    })
+}

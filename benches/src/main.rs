@@ -1,0 +1,75 @@
+//! Runs one case once on one side, for an instruction count.
+//!
+//! `bench list` prints the cases, each with the group of its export. `bench CASE ours|rust` runs
+//! the case's call once to warm up and once within `measured`, and prints the bytes of its input,
+//! the bytes of its answer and the answer's sum.
+
+mod cases;
+mod region;
+mod requests;
+mod results;
+
+// What the tests against the Rust have: inputs, records and the library's exports.
+#[allow(dead_code)]
+#[path = "../../tests/oracle/src/inputs/mod.rs"]
+mod inputs;
+#[allow(dead_code)]
+#[path = "../../tests/oracle/src/random.rs"]
+mod random;
+#[allow(dead_code)]
+#[path = "../../tests/oracle/src/refusal.rs"]
+mod refusal;
+#[allow(dead_code, unused_imports)]
+#[path = "../../tests/oracle/src/script/mod.rs"]
+mod script;
+#[allow(dead_code, unused_macros, unexpected_cfgs)]
+#[path = "../../tests/oracle/src/station.rs"]
+mod station;
+#[allow(dead_code)]
+#[path = "../../tests/oracle/src/utf16.rs"]
+mod utf16;
+
+// The modules `protocol` and `query_response` of docs/src, as build.rs places them.
+include!(concat!(env!("OUT_DIR"), "/rust_modules.rs"));
+
+use cases::{Outcome, Side, cases};
+use std::process::ExitCode;
+
+const USAGE: &str = "bench list\nbench CASE ours|rust";
+
+fn main() -> ExitCode {
+    let words: Vec<String> = std::env::args().skip(1).collect();
+    let words: Vec<&str> = words.iter().map(String::as_str).collect();
+    let done = match words.as_slice() {
+        ["list"] => Some(list()),
+        [case, "ours"] => run(case, Side::Ours),
+        [case, "rust"] => run(case, Side::Rust),
+        _ => None,
+    };
+    if done.is_none() {
+        eprintln!("{USAGE}");
+        return ExitCode::from(2);
+    }
+    ExitCode::SUCCESS
+}
+
+fn list() {
+    for case in cases() {
+        println!("{} {}", case.name, case.group);
+    }
+}
+
+/// None where there is no case of the name, or the library does not export its call.
+fn run(name: &str, side: Side) -> Option<()> {
+    let case = cases().into_iter().find(|case| case.name == name)?;
+    let Outcome { input, answer } = (case.run)(side)?;
+    println!("{input} {} {:016X}", answer.len(), sum(&answer));
+    Some(())
+}
+
+/// The FNV-1a sum.
+fn sum(bytes: &[u8]) -> u64 {
+    bytes.iter().fold(0xCBF2_9CE4_8422_2325, |sum, byte| {
+        (sum ^ u64::from(*byte)).wrapping_mul(0x0000_0100_0000_01B3)
+    })
+}

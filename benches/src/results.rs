@@ -1,0 +1,144 @@
+//! Replies to scripts: rows of one kind, as many as there is room for.
+
+use crate::cases::{Case, Outcome, Side};
+use crate::protocol;
+use crate::query_response::{
+    ColumnDefinition, ColumnValue, QueryResponse, Row, SqlDataType, SqlDataType::*,
+};
+use crate::region::counted;
+use crate::script::records::{Record, cell, chunk, column, row, set, written};
+use crate::utf16;
+use bytes::BytesMut;
+
+/// The most bytes of a reply, by the names of the sizes.
+const SIZES: [(&str, usize); 3] = [("1 KB", 1_024), ("16 KB", 16_384), ("64 KB", 65_535)];
+const COLLATION: [u8; 5] = [0x09, 0x04, 0xD0, 0x00, 0x34];
+
+/// The columns of a set and its rows by number.
+struct Kind {
+    name: &'static str,
+    types: &'static [SqlDataType],
+    value: fn(number: usize) -> ColumnValue,
+}
+
+const KINDS: [Kind; 3] = [
+    Kind {
+        name: "Ints",
+        types: &[Int, Int, Int, Int],
+        value: |number| ColumnValue::Int(number as i32 * 1_000_003),
+    },
+    Kind {
+        name: "texts",
+        types: &[NVarChar, NVarChar],
+        value: |number| ColumnValue::NVarChar(format!("a text of row {number:08}")),
+    },
+    Kind {
+        name: "Max values",
+        types: &[NVarCharMax, VarBinaryMax],
+        value: |number| match number % 2 {
+            0 => ColumnValue::NVarCharMax(vec![vec![number as u16; 40], vec![0x61; 24]]),
+            _ => ColumnValue::VarBinaryMax(vec![vec![number as u8; 80], vec![0xA5; 48]]),
+        },
+    },
+];
+
+pub fn replies() -> Vec<Case> {
+    let mut cases = Vec::new();
+    for kind in &KINDS {
+        for (size, most) in SIZES {
+            let name = format!("{}, {size}", kind.name);
+            cases.push(Case::new(name, "result", move |side| reply(kind, most, side)));
+        }
+    }
+    cases
+}
+
+fn reply(kind: &Kind, most: usize, side: Side) -> Option<Outcome> {
+    let response = filled(kind, most);
+    let script = script(&response);
+    let answer = match side {
+        Side::Ours => ours(&script)?,
+        Side::Rust => counted(|| build(&response)).to_vec(),
+    };
+    Some(Outcome { input: script.len(), answer })
+}
+
+fn build(response: &QueryResponse) -> BytesMut {
+    protocol::build_query_results(response, &[], &[], &[])
+}
+
+/// A set of as many rows as a reply of so many bytes holds.
+fn filled(kind: &Kind, most: usize) -> QueryResponse {
+    let none = build(&rows(kind, 0)).len();
+    let each = build(&rows(kind, 1)).len() - none;
+    let response = rows(kind, (most - none) / each);
+    assert!(build(&response).len() <= most, "rows of one kind are of one length");
+    response
+}
+
+fn rows(kind: &Kind, count: usize) -> QueryResponse {
+    let width = kind.types.len();
+    let columns = (0..).zip(kind.types).map(|(place, data_type)| ColumnDefinition {
+        name: format!("column {place}"),
+        data_type: *data_type,
+        collation: COLLATION,
+    });
+    let row = |row| Row::new((0..width).map(|place| (kind.value)(row * width + place)).collect());
+    QueryResponse {
+        columns: columns.collect(),
+        rows: (0..count).map(row).collect(),
+        info_tokens: Vec::new(),
+        leading_error: None,
+        terminal_error: None,
+        delay: None,
+    }
+}
+
+/// The script that stands for the set (document 01, 'The script').
+fn script(response: &QueryResponse) -> Vec<u8> {
+    let mut records = vec![set(&[])];
+    for definition in &response.columns {
+        let name = utf16::text_bytes(&definition.name);
+        records.push(column(type_byte(definition.data_type), definition.collation, &name));
+    }
+    for values in &response.rows {
+        records.push(row());
+        values.values.iter().for_each(|value| records.extend(cell_records(value)));
+    }
+    written(&records)
+}
+
+/// 1 to 8 in the order of `SqlDataType`.
+fn type_byte(data_type: SqlDataType) -> u8 {
+    data_type as u8 + 1
+}
+
+fn cell_records(value: &ColumnValue) -> Vec<Record> {
+    let max = |value, chunks: Vec<Vec<u8>>| {
+        let chunks = chunks.iter().map(|bytes| chunk(bytes));
+        std::iter::once(cell(value, &[])).chain(chunks).collect()
+    };
+    match value {
+        ColumnValue::Int(number) => vec![cell(3, &number.to_le_bytes())],
+        ColumnValue::NVarChar(text) => vec![cell(5, &utf16::text_bytes(text))],
+        ColumnValue::NVarCharMax(chunks) => {
+            max(6, chunks.iter().map(|units| utf16::bytes(units)).collect())
+        }
+        ColumnValue::VarBinaryMax(chunks) => max(9, chunks.clone()),
+        other => unreachable!("no kind has {other:?}"),
+    }
+}
+
+#[cfg(feature = "result")]
+fn ours(script: &[u8]) -> Option<Vec<u8>> {
+    let mut reply = vec![0; 65_535];
+    let length =
+        counted(|| crate::station::station_build_query_results(script, &mut reply)) as usize;
+    reply.truncate(length);
+    Some(reply)
+}
+
+#[cfg(not(feature = "result"))]
+fn ours(_: &[u8]) -> Option<Vec<u8>> {
+    None
+}
