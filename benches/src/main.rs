@@ -41,7 +41,10 @@ fn main() -> ExitCode {
     let words: Vec<String> = std::env::args().skip(1).collect();
     let words: Vec<&str> = words.iter().map(String::as_str).collect();
     let done = match words.as_slice() {
-        ["list"] => Some(list()),
+        ["list"] => {
+            list();
+            Some(())
+        }
         [case, "ours"] => run(case, Side::Ours),
         [case, "rust"] => run(case, Side::Rust),
         _ => None,

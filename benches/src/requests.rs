@@ -75,7 +75,8 @@ fn rust_login(body: &[u8]) -> Vec<u8> {
     answer
 }
 
-#[allow(unused_variables)]
+// Where an export is missing, what only it uses is left over.
+#[cfg_attr(not(all(feature = "request", feature = "login")), allow(unused))]
 mod ours {
     use super::counted;
 
@@ -112,7 +113,6 @@ mod ours {
     }
 
     /// The part that start and length tell; empty where there is none.
-    #[allow(dead_code)]
     fn part<'a>(body: &'a [u8], slots: &[u64]) -> &'a [u8] {
         let (start, length) = (slots[0] as usize, slots[1] as usize);
         body.get(start..start + length).unwrap_or_default()
