@@ -9,6 +9,7 @@
 #ifndef STATION_H
 #define STATION_H
 
+#include <stdbool.h>
 #include <stddef.h>
 #include <stdint.h>
 
@@ -94,6 +95,81 @@ int64_t station_room(const uint8_t *script, size_t script_len);
  * -11 to -17 as above.
  */
 int64_t station_fit(const uint8_t *script, size_t script_len, uint64_t *out, size_t out_len);
+
+/* Replies. The answer is how many bytes were written to the front of `buf`; the others are kept. A name that ends in
+ * `token`, `tokens` or `ack`, or holds `feature_ext_ack`, and the transaction manager's response hand out bare tokens,
+ * the others a packet.
+ * In this order: -21 an odd number of bytes, then -22 not UTF-16, of each text argument from left to right; of a list of
+ * records -11 one that is cut, -12 of another kind, -13 of a wrong shape, -14 whose text is not UTF-16; -16 an info's
+ * server or procedure name over 255 units; -17 over 65,535 bytes; -20 a `buf` that is too short.
+ * A record is the length of its payload (4 bytes), its kind (2 bytes) and the payload, the lower byte first.
+ */
+
+/* PRELOGIN, with encryption and federated authentication where they are supported. */
+int64_t station_build_prelogin_response(uint8_t *buf, size_t buf_len);
+int64_t station_build_prelogin_response_with_encryption(bool supports_encryption, uint8_t *buf, size_t buf_len);
+int64_t station_build_prelogin_response_with_fedauth(bool supports_encryption, bool supports_fedauth, uint8_t *buf,
+                                                     size_t buf_len);
+int64_t station_build_prelogin_response_with_options(bool supports_encryption, bool supports_fedauth, uint8_t *buf,
+                                                     size_t buf_len);
+
+/* FEATUREEXTACK of federated authentication, of data classification at a version, of enhanced routing, and of a list of
+ * features: records of kind 0x0013, an id (1 byte) and its data.
+ */
+int64_t station_build_feature_ext_ack_fedauth(uint8_t *buf, size_t buf_len);
+int64_t station_build_feature_ext_ack_data_classification(uint8_t version, uint8_t *buf, size_t buf_len);
+int64_t station_build_feature_ext_ack(const uint8_t *features, size_t features_len, uint8_t *buf, size_t buf_len);
+int64_t station_build_feature_ext_ack_enhanced_routing(uint8_t is_enabled, uint8_t *buf, size_t buf_len);
+
+/* FEDAUTHINFO, in a packet behind the acknowledgement of federated authentication, and by itself. */
+int64_t station_build_fedauth_challenge_response(const uint8_t *sts_url, size_t sts_url_len, const uint8_t *spn,
+                                                 size_t spn_len, uint8_t *buf, size_t buf_len);
+int64_t station_build_fedauth_info_token(const uint8_t *sts_url, size_t sts_url_len, const uint8_t *spn,
+                                         size_t spn_len, uint8_t *buf, size_t buf_len);
+
+/* LOGINACK, and the ENVCHANGEs of collation, database and packet size. */
+int64_t station_build_login_ack(uint8_t *buf, size_t buf_len);
+
+/* DONE; without a status, the last one of a reply. */
+int64_t station_build_done_token_with_status(uint16_t status, uint64_t row_count, uint8_t *buf, size_t buf_len);
+int64_t station_build_done_token(uint64_t row_count, uint8_t *buf, size_t buf_len);
+
+/* What answers an attention. */
+int64_t station_build_attention_ack_packet(uint8_t *buf, size_t buf_len);
+
+/* What answers a transaction manager request of a type. */
+int64_t station_build_transaction_manager_response(uint16_t request_type, uint8_t *buf, size_t buf_len);
+
+/* INFO. */
+int64_t station_build_info_token(uint32_t number, uint8_t state, uint8_t severity, const uint8_t *message,
+                                 size_t message_len, const uint8_t *server_name, size_t server_name_len,
+                                 const uint8_t *proc_name, size_t proc_name_len, uint32_t line_number, uint8_t *buf,
+                                 size_t buf_len);
+
+/* ERROR and DONE: an error after which the reply goes on, one that ends it, and the packet of error 50000. */
+int64_t station_build_leading_error_tokens(uint32_t number, uint8_t severity, const uint8_t *message,
+                                           size_t message_len, uint8_t *buf, size_t buf_len);
+int64_t station_build_terminal_error_tokens(uint32_t number, uint8_t severity, const uint8_t *message,
+                                            size_t message_len, uint8_t *buf, size_t buf_len);
+int64_t station_build_error_response(const uint8_t *message, size_t message_len, uint8_t *buf, size_t buf_len);
+
+/* ENVCHANGE of a plain route, and of a route to a database. */
+int64_t station_build_routing_envchange_token(const uint8_t *redirect_host, size_t redirect_host_len,
+                                              uint16_t redirect_port, uint8_t *buf, size_t buf_len);
+int64_t station_build_enhanced_routing_envchange_token(const uint8_t *redirect_host, size_t redirect_host_len,
+                                                       uint16_t redirect_port, const uint8_t *database,
+                                                       size_t database_len, uint8_t *buf, size_t buf_len);
+
+/* A login that is routed by one plain route, and by a list of routes: records of kind 0x0011, plain and without a
+ * payload, and of kind 0x0012, whose payload is the database's text. `ack` is the byte that acknowledges enhanced
+ * routing, before the routes or behind them; 256 and above stand for no acknowledgement.
+ */
+int64_t station_build_routing_response(const uint8_t *redirect_host, size_t redirect_host_len, uint16_t redirect_port,
+                                       uint8_t *buf, size_t buf_len);
+int64_t station_build_routing_login_response(const uint8_t *redirect_host, size_t redirect_host_len,
+                                             uint16_t redirect_port, const uint8_t *routes, size_t routes_len,
+                                             bool login_ack, uint16_t ack, bool ack_before_routing, uint8_t *buf,
+                                             size_t buf_len);
 
 #ifdef __cplusplus
 }

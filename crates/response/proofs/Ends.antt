@@ -2,6 +2,7 @@
 -- A size may be cut off at 65,536: it refuses all the same. Assumes nothing.
 use Prim.Native.Nat.{ℕ, zero, suc, _+_, _≤_, _<_, min}
 use mathlib.Core.Path.{_≡_, refl, sym, ap, _∙_}
+use mathlib.Core.Bool.{cond}
 use mathlib.Core.List.{List}
 use native.Mathlib.Nat.{lt-of-not-le}
 use native.Mathlib.Decide.{decLe}
@@ -76,3 +77,15 @@ module _ {before fault : ℕ} (size : ℕ) (payload buf : List ℕ) {n : ℕ} (o
       let no = none before size (length buf) (sym found ∙ h) in
       let exact : size ≡ 8 + length payload = omega (arith, no .1, same (no .0)) in
       wrote size (packetOf payload) buf of found whole h (then (rw exact at w) v)
+
+-- what is written is no longer than a packet
+small-of : (r size n : ℕ) → (r ≡ 0 → size ≤ 65535) → cond (eqb r 0) (Written size) (Refused r) ≡ Written n → n ≤ 65535
+small-of zero size n f e = let q : size ≡ n = cc in omega (arith, f refl)
+small-of (suc r) size n f e =
+    let w = simp (ne-eqb (suc r) 0 (λ q. omega arith)) at e in
+    let z : _≡_ {A = ℕ} 0 1 = cc in absurd (omega arith)
+
+pub small : (p : Reply) (buf : List ℕ) (n : ℕ) → builtOf p buf ≡ Written n → n ≤ 65535
+unfolding builtOf
+small (reply fault bytes) buf n e =
+    small-of (refusalOf fault (length bytes) (length buf)) (length bytes) n (λ z. none fault (length bytes) (length buf) z .1) e

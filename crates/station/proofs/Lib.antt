@@ -2,3 +2,4 @@ pub mod Signs
 pub mod Ends
 pub mod Ids
 pub mod Lengths
+pub mod Builds

@@ -3,3 +3,4 @@ pub mod Calls
 pub mod Requests
 pub mod Logins
 pub mod Results
+pub mod Builds

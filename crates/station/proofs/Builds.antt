@@ -1,0 +1,27 @@
+-- How the exports that build replies end: one law for all of them, over the reply and the lent buffer. Assumes nothing.
+use Prim.Native.Nat.{ℕ, _^_, _<_}
+use mathlib.Core.Path.{_≡_, sym, ap, _∙_}
+use mathlib.Core.List.{List}
+use native.Mathlib.Omega.{arith}
+use lib.IntN.{ℤ}
+use lib.Signed.{mag}
+use mir.Syntax.{w64}
+use mir.Val.{toZ, ofZ}
+use mir.Facts.{toZ-ofZ}
+use Rattle.response.specs.declared.Built.{Built}
+use Rattle.response.specs.declared.Built.the-variants.{Written}
+use Rattle.response.specs.Answer.{Reply, builtOf, bufferOf}
+use Rattle.response.proofs.Ends.{small}
+use Rattle.station.specs.Answer.{numberOf}
+use Rattle.station.specs.Builds.{builtOutcome, builtNumber}
+
+-- a builder's answer is small
+pub fits : {b : Built} (p : Reply) (buf : List ℕ) → b ≡ builtOf p buf → (n : ℕ) → b ≡ Written n → n < 2 ^ 63
+fits p buf e n q = omega (arith, small p buf n (sym e ∙ q))
+
+-- and its number is told
+pub built : {b : Built} {r : ℤ} {left : List ℕ} (p : Reply) (buf : List ℕ) → mag r < 2 ^ 63 → (b ≡ builtOf p buf) × (left ≡ bufferOf p buf)
+    → r ≡ numberOf (builtOutcome b) → (toZ w64 (ofZ w64 r) ≡ builtNumber p buf) × (left ≡ bufferOf p buf)
+unfolding builtNumber
+built p buf fit e q =
+    (toZ-ofZ {w = w64} (record { sfits = fit }) ∙ q ∙ ap (λ (b : Built). numberOf (builtOutcome b)) (e .0), e .1)

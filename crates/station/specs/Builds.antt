@@ -1,0 +1,17 @@
+-- What the exports that build replies answer: how many bytes were written, or a refusal. Rests on the definitions of `response`.
+use mathlib.Core.List.{List, []}
+use Prim.Native.Nat.{ℕ}
+use lib.IntN.{ℤ}
+use Rattle.response.specs.declared.Built.{Built}
+use Rattle.response.specs.declared.Built.the-variants.{Written, Refused}
+use Rattle.response.specs.Answer.{Reply, builtOf}
+use Rattle.station.specs.Answer.{Outcome, answers, refuses, numberOf}
+
+-- a builder's answer
+abbrev pub builtOutcome : Built → Outcome
+builtOutcome (Written n) = answers n []
+builtOutcome (Refused n) = refuses n
+
+-- the number of a reply for a lent buffer
+unfoldable pub builtNumber : Reply → List ℕ → ℤ
+builtNumber p buf = numberOf (builtOutcome (builtOf p buf))
