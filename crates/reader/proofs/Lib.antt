@@ -10,3 +10,11 @@ pub mod ReadBack
 pub mod Names
 pub mod Sendable
 pub mod EveryKind
+pub mod CodeNumbers
+pub mod CodeReads
+pub mod CodeTypes
+pub mod CodeSigns
+pub mod CodeChunks
+pub mod CodeTokens
+pub mod CodePositions
+pub mod CodeSteps

@@ -5,3 +5,4 @@ pub mod Positions
 pub mod Reader
 pub mod Meaning
 pub mod WellFormed
+pub mod Code

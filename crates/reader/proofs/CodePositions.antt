@@ -1,0 +1,65 @@
+-- What a position that can be tells: where it stands, and of which types are the columns that it holds. Assumes nothing.
+use mathlib.Core.Path.{_≡_, refl, sym, ap, _∙_}
+use mathlib.Core.Bool.{Bool, true, false, _&&_}
+use mathlib.Core.List.{List}
+use Prim.Native.Nat.{ℕ, zero, suc, _-_, _≤_, _<_}
+use native.Mathlib.Omega.{arith}
+use native.Mathlib.Decide.{decLe}
+use native.Mathlib.Nat.{lt-of-not-le}
+use lib.Dec.{leb}
+use lib.ListN.{length, getD}
+use borrow.Author.Tests.{leb-true}
+use Rattle.reader.specs.declared.Position.{Position}
+use Rattle.reader.specs.Places.{inPacket}
+use Rattle.reader.specs.Cells.{isType}
+use Rattle.reader.specs.Positions.{held, stands}
+use Rattle.reader.proofs.CodeReads.{clash}
+
+pub both : (a b : Bool) → (a && b) ≡ true → (a ≡ true) × (b ≡ true)
+both true b e = (refl, e)
+both false b e = clash (cc)
+
+-- ---- held types
+
+-- one turn of the test, from the last type down
+pub held-at : (n : ℕ) (types limits : List ℕ) → 0 < n
+    → held n types limits ≡ (isType (getD types (n - 1) 0) (getD limits (n - 1) 0) && held (n - 1) types limits)
+unfolding held
+held-at n types limits h = let e : n ≡ suc (n - 1) = omega arith in ap (λ (k : ℕ). held k types limits) e
+
+pub held-none : (n : ℕ) (types limits : List ℕ) → n ≤ 0 → held n types limits ≡ true
+unfolding held
+held-none n types limits h = let e : n ≡ 0 = omega arith in rw e
+
+-- each of the types
+pub held-each : (n : ℕ) (types limits : List ℕ) (i : ℕ) → held n types limits ≡ true → i < n → isType (getD types i 0) (getD limits i 0) ≡ true
+unfolding held
+held-each zero types limits i e h = absurd (omega arith)
+held-each (suc n) types limits i e h =
+    let w = both (isType (getD types n 0) (getD limits n 0)) (held n types limits) e in
+    elim (decLe n i) [
+      | yes l ↦ let q : i ≡ n = omega arith in rw q (w .0)
+      | no l ↦ held-each n types limits i (w .1) (lt-of-not-le l)
+    ]
+
+-- ---- positions
+
+pub record Standing (p : List ℕ) (pos : Position) : Type 0 where
+  pub few : pos .count ≤ 128
+  pub columns : pos .columns ≤ pos .count
+  pub cells : pos .cells ≤ pos .count
+  pub types : held (pos .count - pos .columns) (pos .types) (pos .limits) ≡ true
+
+pub standing : (p : List ℕ) (pos : Position) → stands p pos ≡ true → Standing p pos
+unfolding stands
+standing p pos e =
+    let h : Bool = held (pos .count - pos .columns) (pos .types) (pos .limits) in
+    let cells : Bool = leb (pos .cells) (pos .count) in
+    let columns : Bool = leb (pos .columns) (pos .count) in
+    let few : Bool = leb (pos .count) 128 in
+    let place : Bool = inPacket p (pos .place) in
+    let e1 = both (place && few && columns && cells) h e in
+    let e2 = both (place && few && columns) cells (e1 .0) in
+    let e3 = both (place && few) columns (e2 .0) in
+    let e4 = both place few (e3 .0) in
+    record { few = leb-true _ _ (e4 .1); columns = leb-true _ _ (e3 .1); cells = leb-true _ _ (e2 .1); types = e1 .1 }

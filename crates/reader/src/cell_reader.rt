@@ -1,0 +1,345 @@
+// Column types and cells, read at a place (MS-TDS 2.2.5.2.3, 2.2.5.4, 2.2.5.5). They know nothing of headers and positions.
+ghost use mathlib.Core.Path.{_≡_};
+ghost use mathlib.Core.Bool.{true, not, _&&_, _||_};
+ghost use Prim.Native.Nat.{suc, _+_, _-_, _<_, _≤_, _^_};
+ghost use lib.Dec.{leb};
+ghost use lib.ListN.{length};
+ghost use Rattle.token.specs.Types.{lengthWidth, collationSize};
+ghost use Rattle.token.specs.Tokens.{signed};
+ghost use Rattle.reader.specs.Places.{even};
+ghost use Rattle.reader.specs.Cells.{isCode, isType, typeAt, integerAt, boundedAt, isChunk, isLast, chunksAt, maxAt, cellAt};
+ghost use Rattle.reader.specs.Positions.{held};
+ghost use Rattle.reader.specs.Code.{typeRead, cellRead, partRead, chunkRead, chunkAt, signOf};
+use crate::TypeInfo;
+use crate::Value;
+use crate::WRONG;
+use crate::field_reader::NumberRead;
+use crate::field_reader::PartAt;
+use crate::field_reader::PartRead;
+use crate::field_reader::number_at;
+use crate::field_reader::part_at;
+use crate::minus;
+use wire::Part;
+
+// The codes of column types, as MS-TDS numbers them, and the length of a Max type.
+const INTN: u8 = 0x26;
+
+const NVARCHAR: u8 = 0xE7;
+
+const BIGVARCHAR: u8 = 0xA7;
+
+const BIGVARBINARY: u8 = 0xA5;
+
+const MAX: u16 = 0xFFFF;
+
+// The length of a bounded text that is null, and the totals of a Max value that is null or of unknown length.
+const NULL_LENGTH: u64 = 0xFFFF;
+
+const NULL_TOTAL: u64 = 0xFFFF_FFFF_FFFF_FFFF;
+
+const UNKNOWN_TOTAL: u64 = 0xFFFF_FFFF_FFFF_FFFE;
+
+// A column's type, with the place behind it.
+pub(crate) struct TypeAt {
+    pub(crate) info: TypeInfo,
+    pub(crate) next: usize,
+}
+
+pub(crate) enum TypeRead {
+    Whole(TypeAt),
+    Refused(u8),
+}
+
+// TYPE_INFO: the code, the length, the collation.
+pub(crate) fn type_at(packet: &[u8], at: usize) -> TypeRead
+    ensures { λ r. ⌜ r ≡ typeRead (typeAt (now (packet .entry)) at) ⌝ }
+{
+    let code = match number_at(packet, at, 1) {
+        NumberRead::Refused(n) => return TypeRead::Refused(n),
+        NumberRead::Whole(n) => n,
+    };
+    let byte = code.value as u8;
+    if !is_code(byte) {
+        return TypeRead::Refused(WRONG);
+    }
+    let limit = match number_at(packet, code.next, length_width(byte)) {
+        NumberRead::Refused(n) => return TypeRead::Refused(n),
+        NumberRead::Whole(n) => n,
+    };
+    let most = limit.value as u16;
+    if !is_type(byte, most) {
+        return TypeRead::Refused(WRONG);
+    }
+    match part_at(packet, limit.next, collation_size(byte)) {
+        PartRead::Refused(n) => TypeRead::Refused(n),
+        PartRead::Whole(read) => {
+            let collation = read.part;
+            TypeRead::Whole(TypeAt {
+                info: TypeInfo {
+                    code: byte,
+                    limit: most,
+                    collation,
+                },
+                next: read.next,
+            })
+        },
+    }
+}
+
+fn is_code(code: u8) -> bool
+    ensures { λ r. ⌜ r ≡ isCode code ⌝ }
+{
+    (code == INTN) | (code == NVARCHAR) | (code == BIGVARCHAR) | (code == BIGVARBINARY)
+}
+
+// Whether a column type has the code and the length.
+pub(crate) fn is_type(code: u8, limit: u16) -> bool
+    ensures { λ r. ⌜ r ≡ isType code limit ⌝ }
+{
+    ((code == INTN) & ((limit == 1) | (limit == 2) | (limit == 4) | (limit == 8)))
+        | ((code == NVARCHAR) & (((1 <= limit) & (limit <= 8000)) | (limit == MAX)))
+        | (((code == BIGVARCHAR) | (code == BIGVARBINARY)) & (limit == MAX))
+}
+
+// In how many bytes a type's length stands, and how many bytes of collation follow it.
+fn length_width(code: u8) -> usize
+    ensures { λ r. ⌜ r ≡ lengthWidth code ⌝ }
+{
+    if code == INTN { 1 } else { 2 }
+}
+
+fn collation_size(code: u8) -> usize
+    ensures { λ r. ⌜ r ≡ collationSize code ⌝ }
+{
+    if (code == NVARCHAR) | (code == BIGVARCHAR) {
+        5
+    } else {
+        0
+    }
+}
+
+// Whether the first n types are column types.
+pub(crate) fn are_types<'a>(types: &'a [u8; 128], limits: &'a [u16; 128], n: usize) -> bool
+    requires { ⌜ n ≤ 128 ⌝ }
+    ensures { λ r. ⌜ r ≡ held n (now (types .entry)) (now (limits .entry)) ⌝ }
+{
+    let mut i = n;
+    while 0 < i {
+        i -= 1;
+        if !is_type(types[i], limits[i]) {
+            return false;
+        }
+    }
+    true
+}
+
+// A cell's value, with the place behind it.
+pub(crate) enum CellRead {
+    Whole(Value, usize),
+    Refused(u8),
+}
+
+// A cell of a column of some code and length.
+pub(crate) fn cell_at(packet: &[u8], at: usize, code: u8, limit: u16) -> CellRead
+    requires { ⌜ isType code limit ≡ true ⌝ }
+    ensures { λ r. ⌜ r ≡ cellRead (cellAt code limit (now (packet .entry)) at) ⌝ }
+{
+    if code == INTN {
+        return integer_at(packet, at, limit);
+    }
+    if limit == MAX {
+        return max_at(packet, at, code == NVARCHAR);
+    }
+    bounded_at(packet, at, limit)
+}
+
+// A cell of an integer column of some length: a length that is 0, which is null, or the column's, and the number.
+fn integer_at(packet: &[u8], at: usize, limit: u16) -> CellRead
+    requires { ⌜ isType 0x26 limit ≡ true ⌝ }
+    ensures { λ r. ⌜ r ≡ cellRead (integerAt limit (now (packet .entry)) at) ⌝ }
+{
+    let size = match number_at(packet, at, 1) {
+        NumberRead::Refused(n) => return CellRead::Refused(n),
+        NumberRead::Whole(n) => n,
+    };
+    if size.value == 0 {
+        return CellRead::Whole(Value::Null, size.next);
+    }
+    if size.value != limit as u64 {
+        return CellRead::Refused(WRONG);
+    }
+    let width = size.value as usize;
+    match number_at(packet, size.next, width) {
+        NumberRead::Refused(n) => CellRead::Refused(n),
+        NumberRead::Whole(n) => CellRead::Whole(
+            Value::Number(signed_number(width, n.value)),
+            n.next,
+        ),
+    }
+}
+
+// The number that some bytes stand for: one byte without a sign, more with it.
+fn signed_number(width: usize, n: u64) -> i64
+    requires { ⌜ (isType 0x26 width ≡ true) × (n < 256 ^ width) ⌝ }
+    ensures { λ r. ⌜ r ≡ signed width n ⌝ }
+{
+    match width {
+        1 => n as i64,
+        2 => with_sign(n, 0x8000),
+        4 => with_sign(n, 0x8000_0000),
+        _ => with_sign(n, 0x8000_0000_0000_0000),
+    }
+}
+
+// A number of a width with its sign: from half of the width's numbers on it is below zero.
+fn with_sign(n: u64, half: u64) -> i64
+    requires { ⌜ (n < half + half) × (half ≤ 2 ^ 63) ⌝ }
+    ensures { λ r. ⌜ r ≡ signOf half n ⌝ }
+{
+    if n < half {
+        n as i64
+    } else {
+        -1 - (half - 1 - (n - half)) as i64
+    }
+}
+
+// A cell of a bounded text column of some length: null, or a text of an even length within it.
+fn bounded_at(packet: &[u8], at: usize, limit: u16) -> CellRead
+    ensures { λ r. ⌜ r ≡ cellRead (boundedAt limit (now (packet .entry)) at) ⌝ }
+{
+    let size = match number_at(packet, at, 2) {
+        NumberRead::Refused(n) => return CellRead::Refused(n),
+        NumberRead::Whole(n) => n,
+    };
+    if size.value == NULL_LENGTH {
+        return CellRead::Whole(Value::Null, size.next);
+    }
+    if !is_within(size.value, limit as u64) {
+        return CellRead::Refused(WRONG);
+    }
+    match part_at(packet, size.next, size.value as usize) {
+        PartRead::Refused(n) => CellRead::Refused(n),
+        PartRead::Whole(text) => {
+            let part = text.part;
+            CellRead::Whole(Value::Part(part), text.next)
+        },
+    }
+}
+
+// Whether a text of n bytes goes with a column of some length.
+fn is_within(n: u64, limit: u64) -> bool
+    ensures { λ r. ⌜ r ≡ (even n && leb n limit) ⌝ }
+{
+    (n % 2 == 0) & (n <= limit)
+}
+
+// A Max cell: null, or a total that is known or not, and chunks.
+fn max_at(packet: &[u8], at: usize, text: bool) -> CellRead
+    ensures { λ r. ⌜ r ≡ cellRead (maxAt text (now (packet .entry)) at) ⌝ }
+{
+    let total = match number_at(packet, at, 8) {
+        NumberRead::Refused(n) => return CellRead::Refused(n),
+        NumberRead::Whole(n) => n,
+    };
+    if total.value == NULL_TOTAL {
+        return CellRead::Whole(Value::Null, total.next);
+    }
+    if !goes_with(total.value, text) {
+        return CellRead::Refused(WRONG);
+    }
+    match chunks(
+        packet,
+        total.next,
+        text,
+        total.value != UNKNOWN_TOTAL,
+        total.value as usize,
+    ) {
+        PartRead::Refused(n) => CellRead::Refused(n),
+        PartRead::Whole(read) => {
+            let part = read.part;
+            CellRead::Whole(Value::Max(part), read.next)
+        },
+    }
+}
+
+// Whether n bytes can be those of a text, where they are: they are even.
+fn goes_with(n: u64, text: bool) -> bool
+    ensures { λ r. ⌜ r ≡ (even n || not text) ⌝ }
+{
+    (n % 2 == 0) | !text
+}
+
+// The chunks of a Max value from a place on, up to a zero length, where they have a total that is known or not.
+fn chunks(packet: &[u8], start: usize, text: bool, known: bool, total: usize) -> PartRead
+    ensures { λ r. ⌜ r ≡ partRead (chunksAt (suc (length (now (packet .entry)))) text known (now (packet .entry)) start total start) ⌝ }
+{
+    let mut at = start;
+    let mut left = total;
+    loop {
+        match chunk_at(packet, at, text, known, left) {
+            ChunkRead::Refused(n) => {
+                return PartRead::Refused(n);
+            },
+            ChunkRead::Last(next) => {
+                return PartRead::Whole(PartAt {
+                    part: Part {
+                        start,
+                        len: next - start,
+                    },
+                    next,
+                });
+            },
+            ChunkRead::More { len, next } => {
+                left = minus(left, len);
+                at = next;
+            },
+        }
+    }
+}
+
+// What a chunk can be: one of len bytes, or the zero length that ends the chunks; with the place behind it.
+enum ChunkRead {
+    More { len: usize, next: usize },
+    Last(usize),
+    Refused(u8),
+}
+
+// The chunk at a place, where left bytes of a total that is known or not are to come.
+fn chunk_at(packet: &[u8], at: usize, text: bool, known: bool, left: usize) -> ChunkRead
+    ensures { λ r. ⌜ r ≡ chunkRead (chunkAt text known (now (packet .entry)) left at) ⌝ }
+{
+    let size = match number_at(packet, at, 4) {
+        NumberRead::Refused(n) => return ChunkRead::Refused(n),
+        NumberRead::Whole(n) => n,
+    };
+    let len = size.value as usize;
+    if len == 0 {
+        if !is_last(known, left) {
+            return ChunkRead::Refused(WRONG);
+        }
+        return ChunkRead::Last(size.next);
+    }
+    if !is_chunk(text, known, left, len) {
+        return ChunkRead::Refused(WRONG);
+    }
+    match part_at(packet, size.next, len) {
+        PartRead::Refused(n) => ChunkRead::Refused(n),
+        PartRead::Whole(chunk) => ChunkRead::More {
+            len,
+            next: chunk.next,
+        },
+    }
+}
+
+// Whether a chunk of n bytes can stand where left bytes are to come, and whether the last can.
+fn is_chunk(text: bool, known: bool, left: usize, n: usize) -> bool
+    ensures { λ r. ⌜ r ≡ isChunk text known left n ⌝ }
+{
+    ((n % 2 == 0) | !text) & ((n <= left) | !known)
+}
+
+fn is_last(known: bool, left: usize) -> bool
+    ensures { λ r. ⌜ r ≡ isLast known left ⌝ }
+{
+    (left == 0) | !known
+}

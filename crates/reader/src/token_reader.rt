@@ -1,0 +1,269 @@
+// The tokens of a reply, read at a place (MS-TDS 2.2.7). They know nothing of headers and positions.
+ghost use mathlib.Core.Path.{_≡_};
+ghost use mathlib.Core.Bool.{_&&_};
+ghost use Prim.Native.Nat.{_-_, _*_, _≤_};
+ghost use lib.Dec.{leb};
+ghost use Rattle.reader.specs.Places.{even};
+ghost use Rattle.reader.specs.Tokens.{columnAt, metadataAt, rowAt, doneAt, textAt, messageAt, tokenAt};
+ghost use Rattle.reader.specs.Code.{tokenRead, partRead, textsRead, textsAt};
+use crate::MAX_COLUMNS;
+use crate::ROW_WITHOUT_COLUMNS;
+use crate::TOO_MANY_COLUMNS;
+use crate::Token;
+use crate::UNKNOWN_TOKEN;
+use crate::WRONG;
+use crate::cell_reader::TypeRead;
+use crate::cell_reader::type_at;
+use crate::field_reader::NumberRead;
+use crate::field_reader::PartRead;
+use crate::field_reader::number_at;
+use crate::field_reader::part_at;
+use crate::minus;
+use wire::Part;
+
+// A token, with the place behind it.
+pub(crate) enum TokenRead {
+    Whole(Token, usize),
+    Refused(u8),
+}
+
+// A column of COLMETADATA: user type, flags, type, and the name behind its count of units.
+pub(crate) fn column_at(packet: &[u8], at: usize) -> TokenRead
+    ensures { λ r. ⌜ r ≡ tokenRead (columnAt (now (packet .entry)) at) ⌝ }
+{
+    let user_type = match number_at(packet, at, 4) {
+        NumberRead::Refused(n) => return TokenRead::Refused(n),
+        NumberRead::Whole(n) => n,
+    };
+    let flags = match number_at(packet, user_type.next, 2) {
+        NumberRead::Refused(n) => return TokenRead::Refused(n),
+        NumberRead::Whole(n) => n,
+    };
+    let read = match type_at(packet, flags.next) {
+        TypeRead::Refused(n) => return TokenRead::Refused(n),
+        TypeRead::Whole(t) => t,
+    };
+    let units = match number_at(packet, read.next, 1) {
+        NumberRead::Refused(n) => return TokenRead::Refused(n),
+        NumberRead::Whole(n) => n,
+    };
+    match part_at(packet, units.next, 2 * (units.value as usize)) {
+        PartRead::Refused(n) => TokenRead::Refused(n),
+        PartRead::Whole(text) => {
+            let info = read.info;
+            let collation = info.collation;
+            let name = text.part;
+            TokenRead::Whole(
+                Token::Column {
+                    user_type: user_type.value as u32,
+                    flags: flags.value as u16,
+                    code: info.code,
+                    limit: info.limit,
+                    collation,
+                    name,
+                },
+                text.next,
+            )
+        },
+    }
+}
+
+// A token by its first byte, in a set of some number of columns.
+pub(crate) fn token_at(packet: &[u8], at: usize, columns: usize) -> TokenRead
+    ensures { λ r. ⌜ r ≡ tokenRead (tokenAt columns (now (packet .entry)) at) ⌝ }
+{
+    let first = match number_at(packet, at, 1) {
+        NumberRead::Refused(n) => return TokenRead::Refused(n),
+        NumberRead::Whole(n) => n,
+    };
+    let next = first.next;
+    let code = first.value as u8;
+    match code {
+        token::COLMETADATA => metadata_at(packet, next),
+        token::ROW => row_at(columns, next),
+        token::DONE => done_at(packet, next),
+        token::ERROR => message_at(packet, next, code),
+        token::INFO => message_at(packet, next, code),
+        _ => TokenRead::Refused(UNKNOWN_TOKEN),
+    }
+}
+
+// COLMETADATA behind its first byte: the count of columns.
+fn metadata_at(packet: &[u8], at: usize) -> TokenRead
+    ensures { λ r. ⌜ r ≡ tokenRead (metadataAt (now (packet .entry)) at) ⌝ }
+{
+    let count = match number_at(packet, at, 2) {
+        NumberRead::Refused(n) => return TokenRead::Refused(n),
+        NumberRead::Whole(n) => n,
+    };
+    if (MAX_COLUMNS as u64) < count.value {
+        return TokenRead::Refused(TOO_MANY_COLUMNS);
+    }
+    TokenRead::Whole(Token::ColMetadata(count.value as u16), count.next)
+}
+
+// ROW behind its first byte, in a set of some number of columns.
+fn row_at(columns: usize, at: usize) -> TokenRead
+    ensures { λ r. ⌜ r ≡ tokenRead (rowAt columns at) ⌝ }
+{
+    if columns == 0 {
+        return TokenRead::Refused(ROW_WITHOUT_COLUMNS);
+    }
+    TokenRead::Whole(Token::Row, at)
+}
+
+// DONE behind its first byte: status, command, row count.
+fn done_at(packet: &[u8], at: usize) -> TokenRead
+    ensures { λ r. ⌜ r ≡ tokenRead (doneAt (now (packet .entry)) at) ⌝ }
+{
+    let status = match number_at(packet, at, 2) {
+        NumberRead::Refused(n) => return TokenRead::Refused(n),
+        NumberRead::Whole(n) => n,
+    };
+    let command = match number_at(packet, status.next, 2) {
+        NumberRead::Refused(n) => return TokenRead::Refused(n),
+        NumberRead::Whole(n) => n,
+    };
+    match number_at(packet, command.next, 8) {
+        NumberRead::Refused(n) => TokenRead::Refused(n),
+        NumberRead::Whole(count) => TokenRead::Whole(
+            Token::Done {
+                status: status.value as u16,
+                command: command.value as u16,
+                count: count.value,
+            },
+            count.next,
+        ),
+    }
+}
+
+// The bytes of a message's length that are not of its texts.
+const MESSAGE_FIXED: usize = 14;
+
+// ERROR or INFO behind its first byte: length, number, state, class, the texts, line.
+fn message_at(packet: &[u8], at: usize, kind: u8) -> TokenRead
+    ensures { λ r. ⌜ r ≡ tokenRead (messageAt kind (now (packet .entry)) at) ⌝ }
+{
+    let size = match number_at(packet, at, 2) {
+        NumberRead::Refused(n) => return TokenRead::Refused(n),
+        NumberRead::Whole(n) => n,
+    };
+    let length = size.value as usize;
+    if !is_message_length(length) {
+        return TokenRead::Refused(WRONG);
+    }
+    let number = match number_at(packet, size.next, 4) {
+        NumberRead::Refused(n) => return TokenRead::Refused(n),
+        NumberRead::Whole(n) => n,
+    };
+    let state = match number_at(packet, number.next, 1) {
+        NumberRead::Refused(n) => return TokenRead::Refused(n),
+        NumberRead::Whole(n) => n,
+    };
+    let class = match number_at(packet, state.next, 1) {
+        NumberRead::Refused(n) => return TokenRead::Refused(n),
+        NumberRead::Whole(n) => n,
+    };
+    match texts_at(packet, class.next, length - MESSAGE_FIXED) {
+        TextsRead::Refused(n) => TokenRead::Refused(n),
+        TextsRead::Whole(texts, next) => {
+            let text = texts.text;
+            let server = texts.server;
+            let procedure = texts.procedure;
+            TokenRead::Whole(
+                Token::Message {
+                    kind,
+                    number: number.value as u32,
+                    state: state.value as u8,
+                    class: class.value as u8,
+                    text,
+                    server,
+                    procedure,
+                    line: texts.line,
+                },
+                next,
+            )
+        },
+    }
+}
+
+fn is_message_length(n: usize) -> bool
+    ensures { λ r. ⌜ r ≡ (leb 14 n && even n) ⌝ }
+{
+    (MESSAGE_FIXED <= n) & (n % 2 == 0)
+}
+
+// What follows a message's class.
+struct Texts {
+    text: Part,
+    server: Part,
+    procedure: Part,
+    line: u32,
+}
+
+enum TextsRead {
+    Whole(Texts, usize),
+    Refused(u8),
+}
+
+// The most bytes of two names of 255 units, and of one.
+const TWO_NAMES: usize = 1020;
+
+const ONE_NAME: usize = 510;
+
+// The texts of a message, which have room bytes together, and the line.
+fn texts_at(packet: &[u8], at: usize, room: usize) -> TextsRead
+    ensures { λ r. ⌜ r ≡ textsRead (textsAt room (now (packet .entry)) at) ⌝ }
+{
+    let message = match text_at(packet, at, 2, room, TWO_NAMES) {
+        PartRead::Refused(n) => return TextsRead::Refused(n),
+        PartRead::Whole(t) => t,
+    };
+    let text = message.part;
+    let room = minus(room, text.len);
+    let name = match text_at(packet, message.next, 1, room, ONE_NAME) {
+        PartRead::Refused(n) => return TextsRead::Refused(n),
+        PartRead::Whole(t) => t,
+    };
+    let server = name.part;
+    let last = match text_at(packet, name.next, 1, minus(room, server.len), 0) {
+        PartRead::Refused(n) => return TextsRead::Refused(n),
+        PartRead::Whole(t) => t,
+    };
+    let procedure = last.part;
+    match number_at(packet, last.next, 4) {
+        NumberRead::Refused(n) => TextsRead::Refused(n),
+        NumberRead::Whole(line) => TextsRead::Whole(
+            Texts {
+                text,
+                server,
+                procedure,
+                line: line.value as u32,
+            },
+            line.next,
+        ),
+    }
+}
+
+// A text behind its count of units in k bytes, where room bytes are left for it and for texts that have at most most bytes.
+fn text_at(packet: &[u8], at: usize, k: usize, room: usize, most: usize) -> PartRead
+    requires { ⌜ k ≤ 2 ⌝ }
+    ensures { λ r. ⌜ r ≡ partRead (textAt k room most (now (packet .entry)) at) ⌝ }
+{
+    let units = match number_at(packet, at, k) {
+        NumberRead::Refused(n) => return PartRead::Refused(n),
+        NumberRead::Whole(n) => n,
+    };
+    let len = 2 * (units.value as usize);
+    if !leaves(len, room, most) {
+        return PartRead::Refused(WRONG);
+    }
+    part_at(packet, units.next, len)
+}
+
+// Whether a text of len bytes fits the room for it, and leaves at most most of it.
+fn leaves(len: usize, room: usize, most: usize) -> bool
+    ensures { λ r. ⌜ r ≡ (leb len room && leb (room - len) most) ⌝ }
+{
+    (len <= room) & (minus(room, len) <= most)
+}
