@@ -69,6 +69,32 @@ int64_t station_parse_login7(const uint8_t *body, size_t body_len, uint8_t *ids,
 int64_t station_database(const uint8_t *body, size_t body_len, const uint8_t *fallback, size_t fallback_len,
                          uint64_t *out, size_t out_len);
 
+/* The reply packet of a script (document 01, 'The script'), written to the front of `buf`; the other bytes are kept.
+ * 0 or more: the bytes written.
+ * -11 a record cut, -12 a kind unknown or out of order, or no set, -13 a payload of a wrong shape, -14 a text that is not
+ * UTF-16, -15 an empty chunk, -16 a name over 255 units, -17 a reply over 65,535 bytes, -20 fewer bytes of `buf` than the
+ * reply has.
+ */
+int64_t station_build_query_results(const uint8_t *script, size_t script_len, uint8_t *buf, size_t buf_len);
+
+/* The same by the names of the Rust's narrowings. */
+int64_t station_build_query_result(const uint8_t *script, size_t script_len, uint8_t *buf, size_t buf_len);
+int64_t station_build_query_result_with_trailing_info(const uint8_t *script, size_t script_len, uint8_t *buf,
+                                                      size_t buf_len);
+int64_t station_build_query_result_with_extras(const uint8_t *script, size_t script_len, uint8_t *buf, size_t buf_len);
+
+/* Room to lend for the reply of a script: at least its length, and at most 32 more.
+ * -11 to -17 as above.
+ */
+int64_t station_room(const uint8_t *script, size_t script_len);
+
+/* Whether a script fits: the reply reader takes its reply.
+ * 1: kind of a misfit (1 classification, 2 column, 3 cell), set, row, column, each from 0 on, and 0 where there is none
+ * (4 elements). 0: it fits, and `out` may be empty.
+ * -11 to -17 as above.
+ */
+int64_t station_fit(const uint8_t *script, size_t script_len, uint64_t *out, size_t out_len);
+
 #ifdef __cplusplus
 }
 #endif

@@ -1,3 +1,4 @@
 pub mod Signs
 pub mod Ends
 pub mod Ids
+pub mod Lengths

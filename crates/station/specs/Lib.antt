@@ -2,3 +2,4 @@ pub mod Answer
 pub mod Calls
 pub mod Requests
 pub mod Logins
+pub mod Results

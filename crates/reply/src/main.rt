@@ -1,0 +1,53 @@
+// `reply`: a script on standard input; its reply packet, raw, or the line `refused N`.
+use libc::STDIN_FILENO;
+use libc::STDOUT_FILENO;
+use result::Built;
+use wire::Part;
+
+// The most bytes of a script.
+const MOST: usize = 65536;
+// A buffer for it, with a byte more to tell a script that is longer.
+const ROOM: usize = 65537;
+// The refusal of a script that is longer.
+const INPUT_TOO_LONG: u8 = 18;
+// The most bytes of a packet.
+const PACKET: usize = 65535;
+
+fn main() {
+    let mut input = [0u8; ROOM];
+    let n = io::read_full(STDIN_FILENO, &mut input);
+    if n <= MOST {
+        reply(wire::part_of(&input, Part { start: 0, len: n }));
+    } else {
+        refused(INPUT_TOO_LONG);
+    }
+}
+
+fn reply(script: &[u8]) {
+    let mut packet = [0u8; PACKET];
+    match result::build_query_results(script, &mut packet) {
+        Built::Written(length) => write(wire::part_of(
+            &packet,
+            Part {
+                start: 0,
+                len: length,
+            },
+        )),
+        Built::Refused(number) => refused(number),
+    }
+}
+
+// The line `refused N`.
+fn refused(number: u8) {
+    let mut line = [0u8; 32];
+    let mut digits = [0u8; 20];
+    let k = io::decimal(number as u64, &mut digits);
+    let at = wire::put_slice(&mut line, 0, b"refused ");
+    let at = wire::put_slice(&mut line, at, &digits[..k]);
+    let at = wire::put_u8(&mut line, at, b'\n');
+    write(wire::part_of(&line, Part { start: 0, len: at }));
+}
+
+fn write(bytes: &[u8]) {
+    io::write_all(STDOUT_FILENO, bytes);
+}

@@ -1,0 +1,92 @@
+// Replies to scripts: the reply builder under its four names, the room estimate and the fit check.
+ghost use mathlib.Core.Path.{_≡_};
+ghost use mathlib.Core.Bool.{true};
+ghost use lib.ListN.{length};
+ghost use Rattle.result.specs.Refusal.{bufferOf};
+ghost use Rattle.result.specs.Room.{isRoom};
+ghost use Rattle.station.specs.Answer.{numberOf, answerOf, slotsOf};
+ghost use Rattle.station.specs.Results.{builtCall, roomTold, misfitOutcome, fitCall};
+use crate::slots::answered;
+use crate::slots::refused;
+use fit::Fit;
+use fit::Misfit;
+use result::Built;
+use result::Room;
+
+// The bytes written of a script's reply.
+#[no_mangle]
+pub extern "C" fn station_build_query_results(script: &[u8], buf: &mut [u8]) -> i64
+    ensures { λ r. ⌜ r ≡ numberOf (builtCall (now (script .entry)) (length (now (buf .entry)))) ⌝ }
+    ensures { λ _. ⌜ now (buf .exit) ≡ bufferOf (now (script .entry)) (now (buf .entry)) ⌝ }
+{
+    match result::build_query_results(script, buf) {
+        Built::Written(length) => length as i64,
+        Built::Refused(number) => refused(number),
+    }
+}
+
+// The Rust's narrowings.
+#[no_mangle]
+pub extern "C" fn station_build_query_result(script: &[u8], buf: &mut [u8]) -> i64
+    ensures { λ r. ⌜ r ≡ numberOf (builtCall (now (script .entry)) (length (now (buf .entry)))) ⌝ }
+    ensures { λ _. ⌜ now (buf .exit) ≡ bufferOf (now (script .entry)) (now (buf .entry)) ⌝ }
+{
+    station_build_query_results(script, buf)
+}
+
+#[no_mangle]
+pub extern "C" fn station_build_query_result_with_trailing_info(
+    script: &[u8],
+    buf: &mut [u8],
+) -> i64
+    ensures { λ r. ⌜ r ≡ numberOf (builtCall (now (script .entry)) (length (now (buf .entry)))) ⌝ }
+    ensures { λ _. ⌜ now (buf .exit) ≡ bufferOf (now (script .entry)) (now (buf .entry)) ⌝ }
+{
+    station_build_query_results(script, buf)
+}
+
+#[no_mangle]
+pub extern "C" fn station_build_query_result_with_extras(script: &[u8], buf: &mut [u8]) -> i64
+    ensures { λ r. ⌜ r ≡ numberOf (builtCall (now (script .entry)) (length (now (buf .entry)))) ⌝ }
+    ensures { λ _. ⌜ now (buf .exit) ≡ bufferOf (now (script .entry)) (now (buf .entry)) ⌝ }
+{
+    station_build_query_results(script, buf)
+}
+
+// Room to lend for a script's reply: at least its length, and at most 32 more.
+#[no_mangle]
+pub extern "C" fn station_room(script: &[u8]) -> i64
+    ensures { λ r. ⌜ isRoom (now (script .entry)) (roomTold r) ≡ true ⌝ }
+{
+    match result::room_estimate(script) {
+        Room::Bytes(room) => room as i64,
+        Room::Denied(number) => refused(number),
+    }
+}
+
+// 1: kind (1 classification, 2 column, 3 cell), set, row and column of a misfit, 0 where there is none. 0: the script
+// fits, and no slot is asked for.
+#[no_mangle]
+pub extern "C" fn station_fit(script: &[u8], out: &mut [u64]) -> i64
+    ensures { λ r. ⌜ r ≡ answerOf (fitCall (now (script .entry))) (now (out .entry)) ⌝ }
+    ensures { λ _. ⌜ now (out .exit) ≡ slotsOf (fitCall (now (script .entry))) (now (out .entry)) ⌝ }
+{
+    match fit::check(script) {
+        Fit::Yes => 0,
+        Fit::No(misfit) => tell_misfit(misfit, out),
+        Fit::Refused(number) => refused(number),
+    }
+}
+
+fn tell_misfit(misfit: Misfit, out: &mut [u64]) -> i64
+    ensures { λ r. ⌜ r ≡ answerOf (misfitOutcome misfit) (now (out .entry)) ⌝ }
+    ensures { λ _. ⌜ now (out .exit) ≡ slotsOf (misfitOutcome misfit) (now (out .entry)) ⌝ }
+{
+    match misfit {
+        Misfit::Classification { set } => answered(out, 1, &[1, set as u64, 0, 0]),
+        Misfit::Column { set, column } => answered(out, 1, &[2, set as u64, 0, column as u64]),
+        Misfit::Cell { set, row, column } => {
+            answered(out, 1, &[3, set as u64, row as u64, column as u64])
+        }
+    }
+}
