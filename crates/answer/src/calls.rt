@@ -1,6 +1,7 @@
 // The calls, a function each: it gets the input, puts its lines to out from at on, and answers the place behind them.
 use crate::lines;
 use crate::logins;
+use crate::replies;
 use crate::requests;
 use packet::PacketHeader;
 use packet::PacketStatus;
@@ -13,6 +14,8 @@ pub(crate) enum Call {
     Descriptor,
     FedAuth,
     Login,
+    Tokens,
+    Places,
     Unknown,
 }
 
@@ -39,6 +42,12 @@ pub(crate) fn named(argument: usize) -> Call {
     if check::same(word, b"login") {
         return Call::Login;
     }
+    if check::same(word, b"tokens") {
+        return Call::Tokens;
+    }
+    if check::same(word, b"places") {
+        return Call::Places;
+    }
     Call::Unknown
 }
 
@@ -51,6 +60,8 @@ pub(crate) fn answer(call: Call, input: &[u8], out: &mut [u8], at: usize) -> usi
         Call::Descriptor => requests::descriptor(input, out, at),
         Call::FedAuth => requests::fedauth(input, out, at),
         Call::Login => logins::answer(input, out, at),
+        Call::Tokens => replies::answer(input, false, out, at),
+        Call::Places => replies::answer(input, true, out, at),
         Call::Unknown => at,
     }
 }

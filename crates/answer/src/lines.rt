@@ -20,9 +20,14 @@ pub(crate) fn text(out: &mut [u8], at: usize, bytes: &[u8]) -> usize {
 
 // A number in decimal, behind a space.
 pub(crate) fn number(out: &mut [u8], at: usize, n: u64) -> usize {
+    let at = text(out, at, b" ");
+    decimal(out, at, n)
+}
+
+// A number in decimal.
+pub(crate) fn decimal(out: &mut [u8], at: usize, n: u64) -> usize {
     let mut digits = [0u8; 20];
     let k = io::decimal(n, &mut digits);
-    let at = text(out, at, b" ");
     text(out, at, &digits[..k])
 }
 
@@ -52,7 +57,8 @@ pub(crate) fn bytes(out: &mut [u8], at: usize, s: &[u8]) -> usize {
     digits(out, at, s)
 }
 
-fn digits(out: &mut [u8], from: usize, s: &[u8]) -> usize {
+// Bytes in upper-case hexadecimal.
+pub(crate) fn digits(out: &mut [u8], from: usize, s: &[u8]) -> usize {
     let mut at = from;
     let mut i = 0;
     while i < s.len() {

@@ -1,0 +1,114 @@
+"""Replies read by pytds (Debian's python3-tds): its session reads the packet from a transport that holds its bytes."""
+import re
+import types
+
+import pytds.tds
+from pytds import tds_base, tds_types
+
+MAX_TYPES = (tds_types.NVarCharMaxSerializer, tds_types.VarCharMaxSerializer, tds_types.VarBinarySerializerMax)
+COUNT = re.compile(r"rows_affected=(-?[0-9]+)")
+
+
+class Bytes:
+    """A transport that hands out a packet."""
+
+    def __init__(self, packet):
+        self.left = packet
+
+    def recv_into(self, view, size):
+        taken, self.left = self.left[:size], self.left[size:]
+        view[:len(taken)] = taken
+        return len(taken)
+
+
+class Session(pytds.tds._TdsSession):
+    """A session that keeps what it says of a token: the row count of a DONE is told nowhere else."""
+
+    def log_response_message(self, msg):
+        self.said = msg
+
+
+def tokens(packet):
+    """The tokens as pytds read them."""
+    transport = Bytes(packet)
+    connection = pytds.tds._TdsSocket()
+    connection._login = types.SimpleNamespace(bytes_to_unicode=True)
+    session = Session(connection, transport, None)
+    session._reader.set_block_size(65536)
+    session.state = tds_base.TDS_READING
+    found = []
+    while True:
+        marker = session._reader.get_byte()
+        read_token(session, marker, found)
+        if marker == tds_base.TDS_DONE_TOKEN and not session.done_flags & tds_base.TDS_DONE_MORE_RESULTS:
+            break
+    if transport.left or session._reader._pos != len(packet):
+        found.append(("bytes left",))
+    return found
+
+
+def read_token(session, marker, found):
+    failed = None
+    try:
+        session.process_token(marker)
+    except tds_base.Error as error:  # what a DONE with the error bit raises, once it is read
+        failed = error
+    if marker == tds_base.TDS_DONE_TOKEN:
+        found.append(("done", session.done_flags, int(COUNT.search(session.said)[1])))
+        if bool(failed) != bool(session.done_flags & tds_base.TDS_DONE_ERROR):
+            found.append(("error raised", str(failed)))
+        return
+    if failed:
+        raise failed
+    if marker == tds_base.TDS7_RESULT_TOKEN:
+        columns = session.res_info.columns
+        found.append(("columns", len(columns)))
+        found.extend(column(each) for each in columns)
+    elif marker == tds_base.TDS_ROW_TOKEN:
+        found.append(("row", *session.row))
+    else:
+        found.append(message(session.messages[-1]))
+
+
+def column(each):
+    kind = each.serializer
+    collation = getattr(kind, "_collation", None)
+    sent = collation.pack() if collation else b""
+    return "column", each.column_usertype, each.flags, kind.type, length(kind), sent, each.column_name
+
+
+def length(kind):
+    if isinstance(kind, MAX_TYPES):
+        return 0xFFFF
+    return int(2 * kind.size) if kind.type == tds_base.XSYBNVARCHAR else kind.size  # pytds counts an NVARCHAR in characters
+
+
+def message(said):
+    word = {tds_base.TDS_ERROR_TOKEN: "error", tds_base.TDS_INFO_TOKEN: "info"}[said["marker"]]
+    texts = said["message"], said["server"], said["proc_name"]
+    return word, said["msgno"] % 2**32, said["state"], said["severity"], *texts, said["line_number"] % 2**32
+
+
+def expected(script_tokens):
+    """The script's tokens as pytds hands them out: texts as str, and no command of a DONE."""
+    codes = []
+    for token in script_tokens:
+        kind = token[0]
+        if kind == "columns":
+            codes = []
+            yield token
+        elif kind == "column":
+            codes.append(token[3])
+            yield *token[:6], token[6].decode("utf-16-le")
+        elif kind == "row":
+            yield "row", *(value(code, held) for code, held in zip(codes, token[1:]))
+        elif kind == "done":
+            yield "done", token[1], token[3]
+        else:
+            yield *token[:4], *(held.decode("utf-16-le") for held in token[4:7]), token[7]
+
+
+def value(code, held):
+    if held is None or code in (0x26, 0xA5):
+        return held
+    return held.decode("cp1252" if code == 0xA7 else "utf-16-le")

@@ -1,0 +1,152 @@
+"""Scripts that fit, and the tokens that they emit, from document 01 ('The script', 'What a script emits').
+
+A token is a tuple: ('columns', count); ('column', user type, flags, code, length, collation, name); ('error' or 'info', number,
+state, severity, message, server, procedure, line); ('row', values); ('done', status, command, count). Texts, collations and the
+values that are no integers are bytes; a null is None.
+"""
+import struct
+
+SET, COLUMN, INFO, ROW, CELL, CHUNK, LEADING, TERMINAL, TRAILING = range(1, 10)
+# Type byte: the code and length that are sent.
+TYPES = {1: (0x26, 1), 2: (0x26, 2), 3: (0x26, 4), 4: (0x26, 8), 5: (0xE7, 8000), 6: (0xE7, 0xFFFF), 7: (0xA7, 0xFFFF), 8: (0xA5, 0xFFFF)}
+MAX_VALUES = {6: 6, 7: 8, 8: 9}
+MAX_NULL, NULL = 7, 10
+WITH_COLLATION = (5, 6, 7)
+# Latin1_General: texts of one byte a character are read by it.
+LATIN = bytes([0x09, 0x04, 0xD0, 0x00, 0x34])
+SELECT = 0x00C1
+LETTERS = "abcXYZ 019_-é€Ωж中あ"
+PAIRS = "😀𝄞"
+
+
+def record(kind, payload=b""):
+    return struct.pack("<IH", len(payload), kind) + payload
+
+
+def text(source, most, letters=LETTERS):
+    return "".join(source.choice(letters) for _ in range(source.randint(0, most))).encode("utf-16-le")
+
+
+class Script:
+    """Records, and the tokens that they emit."""
+
+    def __init__(self, source):
+        self.source, self.records, self.tokens = source, [], []
+
+    def bytes(self):
+        return b"".join(self.records)
+
+    def put(self, kind, payload=b""):
+        self.records.append(record(kind, payload))
+
+    def info(self, kind):
+        source = self.source
+        number, line = source.getrandbits(32), source.getrandbits(32)
+        state, severity = source.getrandbits(8), source.getrandbits(8)
+        texts = [text(source, most, LETTERS + PAIRS) for most in (30, 8, 8)]
+        counts = [len(each) // 2 for each in texts]
+        self.put(kind, struct.pack("<IBBI3H", number, state, severity, line, *counts) + b"".join(texts))
+        self.tokens.append(("info", number, state, severity, *texts, line))
+
+    def error(self, kind, status):
+        number, severity = self.source.getrandbits(32), self.source.getrandbits(8)
+        said = text(self.source, 40, LETTERS + PAIRS)
+        self.put(kind, struct.pack("<IB", number, severity) + said)
+        self.tokens += [("error", number, 1, severity, said, b"", b"", 1), ("done", status, SELECT, 0)]
+
+    def column(self, type_byte):
+        collation = LATIN if type_byte == 7 else struct.pack("<IB", self.source.getrandbits(32) & ~0x0C000000, self.source.getrandbits(8))
+        name = text(self.source, 10)
+        self.put(COLUMN, bytes([type_byte]) + collation + name)
+        sent = collation if type_byte in WITH_COLLATION else b""
+        self.tokens.append(("column", 0, 0, *TYPES[type_byte], sent, name))
+
+    def cell(self, type_byte):
+        if type_byte <= 4:
+            return self.integer(type_byte)
+        if type_byte == 5:
+            held = text(self.source, self.source.choice((0, 8, 300)), LETTERS + PAIRS)
+            self.put(CELL, b"\5" + held)
+            return held
+        return self.long_value(type_byte)
+
+    def integer(self, type_byte):
+        if self.source.random() < 0.2:
+            self.put(CELL, bytes([NULL]))
+            return None
+        width = TYPES[type_byte][1]
+        half = 1 << (8 * width - 1)
+        low, high = (0, 255) if width == 1 else (-half, half - 1)
+        value = self.source.choice((low, high, -1 if low else 128, self.source.randint(low, high), self.source.randint(low, high)))
+        self.put(CELL, bytes([type_byte]) + value.to_bytes(width, "little", signed=width > 1))
+        return value
+
+    def long_value(self, type_byte):
+        source = self.source
+        if source.random() < 0.2:
+            self.put(CELL, bytes([MAX_NULL]))
+            return None
+        self.put(CELL, bytes([MAX_VALUES[type_byte]]))
+        if type_byte == 6:
+            held = text(source, source.choice((0, 20, 400)), LETTERS + PAIRS)
+        elif type_byte == 7:
+            held = "".join(source.choice("abc XYZ019é€ü") for _ in range(source.choice((0, 20, 400)))).encode("cp1252")
+        else:
+            held = source.randbytes(source.choice((0, 1, 20, 400)))
+        self.chunks(held, 2 if type_byte == 6 else 1)
+        return held
+
+    def chunks(self, held, unit):
+        at = 0
+        while at < len(held):
+            size = unit * self.source.choice((1, 2, 7, len(held)))
+            self.put(CHUNK, held[at:at + size])
+            at += size
+
+    def set(self, first, last, terminal):
+        source = self.source
+        self.put(SET)
+        most = source.choice((0, 1, 3, 8, 8, 128))
+        types = [source.randint(1, 8) for _ in range(most if most == 128 else source.randint(0, most))]
+        start = len(self.tokens)
+        self.tokens.append(("columns", len(types)))
+        for type_byte in types:
+            self.column(type_byte)
+        self.errors(first, terminal, start)
+        for _ in range(source.choice((0, 0, 1, 2))):
+            self.info(INFO)
+        rows = source.choice((0, 1, 2, 5)) if types else 0
+        for _ in range(min(rows, 1) if most == 128 else rows):
+            self.put(ROW)
+            self.tokens.append(("row", *(self.cell(type_byte) for type_byte in types)))
+        count = sum(1 for token in self.tokens[start:] if token[0] == "row")
+        if last:
+            for _ in range(source.choice((0, 0, 1, 3))):
+                self.info(TRAILING)
+        self.tokens.append(("done", 0x0000 if last else 0x0001, SELECT, count))
+
+    def errors(self, first, terminal, start):
+        """Errors stand behind the columns, and in the first set only they are sent: before the set, or alone."""
+        kept, self.tokens = self.tokens, []
+        if self.source.random() < 0.3:
+            self.error(LEADING, 0x0003)
+        if first:
+            kept[start:start] = self.tokens
+        self.tokens = []
+        if terminal or (not first and self.source.random() < 0.2):
+            self.error(TERMINAL, 0x0002)
+            self.alone = self.tokens if first else None
+        self.tokens = kept
+
+
+def random_script(source):
+    """A script that fits, and its tokens."""
+    script = Script(source)
+    terminal, sets = source.random() < 0.1, source.choice((1, 1, 2, 4))
+    script.alone = None
+    alone = None
+    for i in range(sets):
+        script.set(i == 0, i == sets - 1, terminal and i == 0)
+        if i == 0:
+            alone = script.alone
+    return script.bytes(), alone if alone else script.tokens
