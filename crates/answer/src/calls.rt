@@ -1,12 +1,16 @@
 // The calls, a function each: it gets the input, puts its lines to out from at on, and answers the place behind them.
 use crate::lines;
 use crate::logins;
+use crate::replies;
 use crate::requests;
 use packet::PacketHeader;
 use packet::PacketStatus;
 use packet::Parsed;
 
 pub(crate) enum Call {
+    Reply,
+    Room,
+    Fit,
     Header,
     Batch,
     Transaction,
@@ -21,6 +25,15 @@ pub(crate) fn named(argument: usize) -> Call {
     let mut name = [0u8; 16];
     let n = os::arg(argument, &mut name);
     let word = &name[..n];
+    if check::same(word, b"reply") {
+        return Call::Reply;
+    }
+    if check::same(word, b"room") {
+        return Call::Room;
+    }
+    if check::same(word, b"fit") {
+        return Call::Fit;
+    }
     if check::same(word, b"header") {
         return Call::Header;
     }
@@ -45,6 +58,9 @@ pub(crate) fn named(argument: usize) -> Call {
 // The lines of a call's answer.
 pub(crate) fn answer(call: Call, input: &[u8], out: &mut [u8], at: usize) -> usize {
     match call {
+        Call::Reply => replies::reply(input, out, at),
+        Call::Room => replies::room(input, out, at),
+        Call::Fit => replies::fit(input, out, at),
         Call::Header => answer_header(input, out, at),
         Call::Batch => requests::batch(input, out, at),
         Call::Transaction => requests::transaction(input, out, at),

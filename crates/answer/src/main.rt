@@ -3,6 +3,7 @@
 mod calls;
 mod lines;
 mod logins;
+mod replies;
 mod requests;
 mod runs;
 
@@ -41,6 +42,6 @@ fn many(call: Call) {
 fn usage() {
     io::write_all(
         libc::STDOUT_FILENO,
-        b"usage: answer [many] CALL, where CALL is one of: batch trans descriptor fedauth header login\n",
+        b"usage: answer [many] CALL, where CALL is one of: reply room fit batch trans descriptor fedauth header login\n",
     );
 }
