@@ -89,7 +89,7 @@ int64_t station_build_query_result_with_extras(const uint8_t *script, size_t scr
  */
 int64_t station_room(const uint8_t *script, size_t script_len);
 
-/* Whether a script fits: the reply reader takes its reply.
+/* Whether a script fits (document 01, 'The script').
  * 1: kind of a misfit (1 classification, 2 column, 3 cell), set, row, column, each from 0 on, and 0 where there is none
  * (4 elements). 0: it fits, and `out` may be empty.
  * -11 to -17 as above.

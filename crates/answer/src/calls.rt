@@ -3,11 +3,15 @@ use crate::lines;
 use crate::logins;
 use crate::replies;
 use crate::requests;
+use crate::scripts;
 use packet::PacketHeader;
 use packet::PacketStatus;
 use packet::Parsed;
 
 pub(crate) enum Call {
+    Reply,
+    Room,
+    Fit,
     Header,
     Batch,
     Transaction,
@@ -24,6 +28,15 @@ pub(crate) fn named(argument: usize) -> Call {
     let mut name = [0u8; 16];
     let n = os::arg(argument, &mut name);
     let word = &name[..n];
+    if check::same(word, b"reply") {
+        return Call::Reply;
+    }
+    if check::same(word, b"room") {
+        return Call::Room;
+    }
+    if check::same(word, b"fit") {
+        return Call::Fit;
+    }
     if check::same(word, b"header") {
         return Call::Header;
     }
@@ -54,6 +67,9 @@ pub(crate) fn named(argument: usize) -> Call {
 // The lines of a call's answer.
 pub(crate) fn answer(call: Call, input: &[u8], out: &mut [u8], at: usize) -> usize {
     match call {
+        Call::Reply => scripts::reply(input, out, at),
+        Call::Room => scripts::room(input, out, at),
+        Call::Fit => scripts::fit(input, out, at),
         Call::Header => answer_header(input, out, at),
         Call::Batch => requests::batch(input, out, at),
         Call::Transaction => requests::transaction(input, out, at),

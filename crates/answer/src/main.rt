@@ -6,6 +6,7 @@ mod logins;
 mod replies;
 mod requests;
 mod runs;
+mod scripts;
 
 use calls::Call;
 
@@ -42,6 +43,6 @@ fn many(call: Call) {
 fn usage() {
     io::write_all(
         libc::STDOUT_FILENO,
-        b"usage: answer [many] CALL, where CALL is one of: batch trans descriptor fedauth header login tokens places\n",
+        b"usage: answer [many] CALL, where CALL is one of: reply room fit tokens places batch trans descriptor fedauth header login\n",
     );
 }

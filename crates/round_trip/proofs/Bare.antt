@@ -51,12 +51,12 @@ bare-from set row rows types (cut ∷ rs) e = tt
 bare-from set row rows types (item k p ∷ rs) e =
     either (eqb k 1)
     (λ h. let f = fits-set set row types k p rs e h in
-      rw h (bare-cat (setPieces p rs) (emitFrom 0 rs) (bare-set (suc set) p rs (f .0)) (bare-from (suc set) 0 0 (typesIn (ahead 2 rs)) rs (f .1))))
+    rw h (bare-cat (setPieces p rs) (emitFrom 0 rs) (bare-set (suc set) p rs (f .0)) (bare-from (suc set) 0 0 (typesIn (ahead 2 rs)) rs (f .1))))
     (λ h1. either (eqb k 4)
     (λ h. let w = bare-from set (suc row) (suc rows) types rs (fits-row set row types k p rs e h1 h .1) in rw (eqb-true k 4 h) w)
     (λ h4. let w = bare-from set row rows types rs (fits-other set row types k p rs e h1 h4) in
-      either (eqb k 3 || eqb k 9) (λ h. rw (h1, h, h4) w)
-      (λ h3. either (eqb k 5) (λ h. rw (h1, h3, h4, h) w) (λ h. rw (h1, h3, h4, h) w))))
+    either (eqb k 3 || eqb k 9) (λ h. rw (h1, h, h4) w)
+    (λ h3. either (eqb k 5) (λ h. rw (h1, h3, h4, h) w) (λ h. rw (h1, h3, h4, h) w))))
 
 by-error : {X : Type 0} (o : Option (List ℕ)) → (o ≡ none → X) → ((e : List ℕ) → o ≡ some e → X) → X
 by-error none f g = f refl
@@ -69,8 +69,8 @@ bare-script (cut ∷ rs) e = tt
 bare-script (item k p ∷ rs) e =
     by-error (errorIn 8 rs)
     (λ h. let f = fits-first k p rs e h in
-      let sets = bare-cat (setPieces p rs) (emitFrom 0 rs) (bare-set 0 p rs (f .0)) (bare-from 0 0 0 (typesIn (ahead 2 rs)) rs (f .1)) in
-      rw h (bare-cat (errorPieces leadingStatus (errorIn 7 rs)) (setPieces p rs ++ emitFrom 0 rs) (bare-error leadingStatus (errorIn 7 rs)) sets))
+    let sets = bare-cat (setPieces p rs) (emitFrom 0 rs) (bare-set 0 p rs (f .0)) (bare-from 0 0 0 (typesIn (ahead 2 rs)) rs (f .1)) in
+    rw h (bare-cat (errorPieces leadingStatus (errorIn 7 rs)) (setPieces p rs ++ emitFrom 0 rs) (bare-error leadingStatus (errorIn 7 rs)) sets))
     (λ x h. rw h tt)
 
 pub reply-is : (s : List ℕ) → fitOf s ≡ Yes → replyOf s ≡ tokensPacket (emitted s)

@@ -42,8 +42,8 @@ counted rows (item k p ∷ rs) =
     (λ h1. either (eqb k 4)
     (λ h. let w = counted (suc rows) rs in rw (eqb-true k 4 h) w)
     (λ h4. let w = counted rows rs in
-      either (eqb k 3 || eqb k 9) (λ h. rw (h1, h, h4) w)
-      (λ h3. either (eqb k 5) (λ h. rw (h1, h3, h4, h) w) (λ h. rw (h1, h3, h4, h) w))))
+    either (eqb k 3 || eqb k 9) (λ h. rw (h1, h, h4) w)
+    (λ h3. either (eqb k 5) (λ h. rw (h1, h3, h4, h) w) (λ h. rw (h1, h3, h4, h) w))))
 
 counted-sets : (o8 o7 : Option (List ℕ)) (p : List ℕ) (rs : List Item)
     → countsRows 0 (tokensIn (Rattle.result.specs.Emission.orSets o8 (errorPieces leadingStatus o7 ++ (setPieces p rs ++ emitFrom 0 rs)))) ≡ true

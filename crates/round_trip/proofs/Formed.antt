@@ -288,12 +288,12 @@ sets-formed : (k : ℕ) (p : List ℕ) (rs : List Item) → Payloads rs → verd
 sets-formed k p rs b v m s l =
     by-error (errorIn 8 rs)
     (λ h.
-      let sets : List Piece = setPieces p rs ++ emitFrom 0 rs in
-      let f = fits-first k p rs m h in
-      let s′ : faultIn (errorPieces leadingStatus (errorIn 7 rs) ++ sets) ≡ 0 = rw h at s in
-      let l′ : length (bytesIn (errorPieces leadingStatus (errorIn 7 rs) ++ sets)) < 256 ^ 8 = rw h at l in
-      let w = begins 0 p rs (formed rs) b v (f .0) (f .1) (fault-parts (errorPieces leadingStatus (errorIn 7 rs)) sets s′ .1) (omega (arith, l′, later (errorPieces leadingStatus (errorIn 7 rs)) sets)) in
-      rw h (leads (errorIn 7 rs) sets (leading-error Columns rs b v) w))
+    let sets : List Piece = setPieces p rs ++ emitFrom 0 rs in
+    let f = fits-first k p rs m h in
+    let s′ : faultIn (errorPieces leadingStatus (errorIn 7 rs) ++ sets) ≡ 0 = rw h at s in
+    let l′ : length (bytesIn (errorPieces leadingStatus (errorIn 7 rs) ++ sets)) < 256 ^ 8 = rw h at l in
+    let w = begins 0 p rs (formed rs) b v (f .0) (f .1) (fault-parts (errorPieces leadingStatus (errorIn 7 rs)) sets s′ .1) (omega (arith, l′, later (errorPieces leadingStatus (errorIn 7 rs)) sets)) in
+    rw h (leads (errorIn 7 rs) sets (leading-error Columns rs b v) w))
     (λ e h. let ok : ErrorOk (some e) = rw h at (terminal-error Columns rs b v) in rw h (stops e ok))
 
 script-formed : (rs : List Item) → Payloads rs → verdictFrom Start rs ≡ 0 → misfits rs ≡ [] → faultIn (emittedBy rs) ≡ 0

@@ -32,8 +32,8 @@ written s m n e =
     (λ h. either (ltb m (length (replyOf s)))
     (λ g. let c : _≡_ (Refused 20) (Written n) = rw (h, g) at e in let z : _≡_ {A = ℕ} 0 1 = cc in absurd (omega arith))
     (λ g. let c : _≡_ (Written (length (replyOf s))) (Written n) = rw (h, g) at e in
-      let z : length (replyOf s) ≡ n = cc in
-      (z, ltb-false m (length (replyOf s)) g)))
+    let z : length (replyOf s) ≡ n = cc in
+    (z, ltb-false m (length (replyOf s)) g)))
     (λ h. let c : _≡_ (Refused (refusalOf s)) (Written n) = rw h at e in let z : _≡_ {A = ℕ} 0 1 = cc in absurd (omega arith))
 
 module _ (s b : List ℕ) (n : ℕ) (h : Sent s b n) where
