@@ -1,4 +1,3 @@
-pub mod Cases
 pub mod Sizes
 pub mod Aheads
 pub mod Turns

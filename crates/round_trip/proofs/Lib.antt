@@ -5,3 +5,5 @@ pub mod Formed
 pub mod Bare
 pub mod RoundTrip
 pub mod Corollaries
+pub mod Running
+pub mod Cases
