@@ -1,6 +1,7 @@
 // The round trip (document 01, 'What a script emits', 'The reply reader'): what the reply builder writes for a script that fits
 // is what the reply reader reads. The theorem is in specs/RoundTrip.antt; `kth_token` has it of running code.
-use reader::{Answer, Position};
+use reader::Answer;
+use reader::Position;
 use result::Built;
 use wire::Part;
 ghost use mathlib.Core.Path.{_≡_};
