@@ -1,12 +1,12 @@
 -- What it says of records that the script is accepted: each is allowed, shaped and of UTF-16 texts, and so are those behind it;
 -- and what it says of emitted pieces that they have no fault. Assumes nothing.
-use mathlib.Core.Path.{_≡_, refl, sym, ap, _∙_}
-use mathlib.Core.Bool.{Bool, true, false, cond, not, and-eq-true-iff, _&&_, _||_}
+use mathlib.Core.Path.{_≡_, refl, sym, _∙_}
+use mathlib.Core.Bool.{Bool, true, false, cond, and-eq-true-iff, _&&_, _||_}
 use mathlib.Core.List.{List, [], _∷_, _++_}
 use mathlib.Core.Option.{Option, none, some}
-use Prim.Native.Nat.{ℕ, zero, suc, _+_, _≤_, _<_}
+use Prim.Native.Nat.{ℕ, zero, suc, _+_, _≤_}
 use native.Mathlib.Omega.{arith}
-use lib.Dec.{eqb, ltb, eqb·suc-zero}
+use lib.Dec.{eqb, eqb·suc-zero}
 use lib.ListN.{length, drop}
 use borrow.Author.Tests.{eqb-true, ltb-false}
 use Rattle.text.specs.Surrogates.{wellFormed}
@@ -162,3 +162,8 @@ leading-error st rs b e = errors 7 (λ p. refl) st rs b e
 pub terminal-error : (st : Stage) (rs : List Item) → Payloads rs → verdictFrom st rs ≡ 0 → ErrorOk (errorIn 8 rs)
 unfolding textsOf
 terminal-error st rs b e = errors 8 (λ p. refl) st rs b e
+
+-- an error that is there or not
+pub by-error : {X : Type 0} (o : Option (List ℕ)) → (o ≡ none → X) → ((e : List ℕ) → o ≡ some e → X) → X
+by-error none f g = f refl
+by-error (some e) f g = g e refl

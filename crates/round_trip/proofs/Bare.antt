@@ -1,6 +1,6 @@
 -- The reply of a script that fits is the packet of its tokens: no classification has bytes. Assumes nothing.
-use mathlib.Core.Path.{_≡_, refl, sym, ap, _∙_}
-use mathlib.Core.Bool.{Bool, true, false, cond, _||_}
+use mathlib.Core.Path.{_≡_, ap, _∙_}
+use mathlib.Core.Bool.{_||_}
 use mathlib.Core.List.{List, [], _∷_, _++_, map}
 use mathlib.Core.Option.{Option, none, some}
 use Prim.Native.Nat.{ℕ, suc}
@@ -10,12 +10,13 @@ use Rattle.packet.specs.Reply.{packetOf}
 use Rattle.token.specs.Tokens.{bytesOf, joined}
 use Rattle.script.specs.Records.{Item, item, cut, records}
 use Rattle.result.specs.Runs.{ahead}
-use Rattle.result.specs.Emission.{Piece, told, classified, leadingStatus, columnPieces, setPieces, piecesOf, rowsAfter, emitFrom, errorIn, errorPieces, setsOf, emittedBy, pieces, tokensIn, emitted, bytesIn, replyOf}
+use Rattle.result.specs.Emission.{Piece, told, classified, leadingStatus, columnPieces, setPieces, piecesOf, rowsAfter, emitFrom, errorIn, errorPieces, emittedBy, pieces, tokensIn, emitted, bytesIn, replyOf}
 use Rattle.result.proofs.Sizes.{bytes-none, bytes-told, bytes-classified}
 use Rattle.fit.specs.declared.Fit.the-variants.{Yes}
 use Rattle.fit.specs.Misfits.{typesIn, setMisfits, misfitsFrom, misfits, fitOf}
 use Rattle.fit.proofs.Inverts.{either, set-fits, fits-set, fits-row, fits-other, fits-first, fits-yes}
 use Rattle.reader.specs.WellFormed.{tokensPacket}
+use Rattle.round_trip.proofs.Accepted.{by-error}
 
 -- pieces without bytes that are no token's
 abbrev Bare : List Piece → Type 0
@@ -57,10 +58,6 @@ bare-from set row rows types (item k p ∷ rs) e =
     (λ h4. let w = bare-from set row rows types rs (fits-other set row types k p rs e h1 h4) in
     either (eqb k 3 || eqb k 9) (λ h. rw (h1, h, h4) w)
     (λ h3. either (eqb k 5) (λ h. rw (h1, h3, h4, h) w) (λ h. rw (h1, h3, h4, h) w))))
-
-by-error : {X : Type 0} (o : Option (List ℕ)) → (o ≡ none → X) → ((e : List ℕ) → o ≡ some e → X) → X
-by-error none f g = f refl
-by-error (some e) f g = g e refl
 
 bare-script : (rs : List Item) → misfits rs ≡ [] → Bare (emittedBy rs)
 unfolding emittedBy

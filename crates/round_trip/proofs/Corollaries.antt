@@ -1,20 +1,18 @@
 -- The corollaries of the round trip. Assumes nothing.
-use mathlib.Core.Path.{_≡_, refl, sym, ap, _∙_}
-use mathlib.Core.Bool.{Bool, true, false, cond, _&&_, _||_}
-use mathlib.Core.List.{List, [], _∷_, _++_, map}
+use mathlib.Core.Path.{_≡_, refl, sym, _∙_}
+use mathlib.Core.Bool.{true, _||_}
+use mathlib.Core.List.{List, [], _∷_, _++_}
 use mathlib.Core.Option.{Option, none, some}
 use Prim.Native.Nat.{ℕ, suc}
 use lib.Dec.{eqb}
 use borrow.Author.Tests.{eqb-true, eq-eqb}
-use Rattle.packet.specs.Status.{hasBit}
-use Rattle.token.specs.Tokens.{Token, Sent, states}
+use Rattle.token.specs.Tokens.{Token, Sent}
 use Rattle.script.specs.Records.{Item, item, cut, records}
 use Rattle.result.specs.Runs.{ahead}
-use Rattle.result.specs.Emission.{Piece, classified, leadingStatus, columnPieces, setPieces, piecesOf, rowsAfter, emitFrom, errorIn, errorPieces, setsOf, emittedBy, pieces, tokensIn, emitted}
+use Rattle.result.specs.Emission.{Piece, classified, leadingStatus, columnPieces, setPieces, piecesOf, rowsAfter, emitFrom, errorIn, errorPieces, orSets, emittedBy, pieces, tokensIn, emitted}
 use Rattle.fit.proofs.Inverts.{either}
 use Rattle.reader.specs.WellFormed.{Phase, WF, wf-metadata, wf-column, wf-row, wf-cell, wf-message, wf-done, wf-last}
 use Rattle.reader.proofs.ReadBack.{equal-packets}
-use Rattle.round_trip.specs.RoundTrip.{packetIn}
 use Rattle.round_trip.specs.Corollaries.{EqualPackets, countsRows, RowsCounted, moreButLast, MoreButLast, Terminal}
 use Rattle.round_trip.proofs.Formed.{emitted-well-formed}
 use Rattle.round_trip.proofs.RoundTrip.{packet-is, packet-short}
@@ -46,7 +44,7 @@ counted rows (item k p ∷ rs) =
     (λ h3. either (eqb k 5) (λ h. rw (h1, h3, h4, h) w) (λ h. rw (h1, h3, h4, h) w))))
 
 counted-sets : (o8 o7 : Option (List ℕ)) (p : List ℕ) (rs : List Item)
-    → countsRows 0 (tokensIn (Rattle.result.specs.Emission.orSets o8 (errorPieces leadingStatus o7 ++ (setPieces p rs ++ emitFrom 0 rs)))) ≡ true
+    → countsRows 0 (tokensIn (orSets o8 (errorPieces leadingStatus o7 ++ (setPieces p rs ++ emitFrom 0 rs)))) ≡ true
 counted-sets (some e) o7 p rs = refl
 counted-sets none none p rs = no-rows p (ahead 2 rs) (emitFrom 0 rs) ∙ counted 0 rs
 counted-sets none (some e) p rs = no-rows p (ahead 2 rs) (emitFrom 0 rs) ∙ counted 0 rs

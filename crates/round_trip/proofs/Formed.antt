@@ -1,7 +1,7 @@
 -- What a script of bytes emits that is accepted and fits is well formed: by induction over the records, with the stage of their
 -- order, the types of the set's columns and those whose cells are to come in hand. Assumes nothing.
-use mathlib.Core.Path.{_≡_, refl, sym, ap, _∙_}
-use mathlib.Core.Bool.{Bool, true, false, cond, _||_}
+use mathlib.Core.Path.{_≡_, refl}
+use mathlib.Core.Bool.{true, false, cond, _||_}
 use mathlib.Core.List.{List, [], _∷_, _++_, map, append-nil}
 use mathlib.Core.Option.{Option, none, some}
 use Prim.Native.Nat.{ℕ, suc, _+_, _^_, _≤_, _<_}
@@ -13,15 +13,15 @@ use borrow.Author.Tests.{eqb-true, ltb-false}
 use Rattle.wire.specs.Le.{leAt}
 use Rattle.packet.specs.Status.{hasBit}
 use Rattle.packet.proofs.Sizes.{length-packet}
-use Rattle.token.specs.Tokens.{Token, metadata, row, cell, Sent, unitCount}
+use Rattle.token.specs.Tokens.{metadata, row, cell, unitCount}
 use Rattle.script.specs.declared.Stage.{Stage}
-use Rattle.script.specs.declared.Stage.the-variants.{Start, Columns, Rows, TextChunks}
+use Rattle.script.specs.declared.Stage.the-variants.{Start, Columns, Rows}
 use Rattle.script.specs.Records.{Item, item, cut, records}
 use Rattle.script.specs.Order.{allowed, stageAfter, cellStage}
 use Rattle.script.specs.Shape.{shaped, textsOf}
 use Rattle.script.specs.Verdict.{verdictFrom, verdictOf}
 use Rattle.result.specs.Runs.{ahead}
-use Rattle.result.specs.Emission.{Piece, told, classified, columnToken, infoToken, errorToken, doneToken, moreStatus, leadingStatus, terminalStatus, cellOf, columnPieces, setPieces, piecesOf, rowsAfter, emitFrom, errorIn, errorPieces, orSets, setsOf, emittedBy, pieces, tokensIn, emitted, bytesIn, replyOf}
+use Rattle.result.specs.Emission.{Piece, told, classified, columnToken, infoToken, doneToken, moreStatus, leadingStatus, terminalStatus, cellOf, columnPieces, setPieces, piecesOf, rowsAfter, emitFrom, errorIn, errorPieces, setsOf, emittedBy, pieces, tokensIn, emitted, bytesIn, replyOf}
 use Rattle.result.specs.Refusal.{longName, faultIn, refusalOf}
 use Rattle.result.proofs.Sizes.{size-told, size-row, size-cat}
 use Rattle.fit.specs.declared.Fit.the-variants.{Yes}
@@ -31,7 +31,7 @@ use Rattle.reader.specs.WellFormed.{ColumnType, among, between, inRow, WF, Well
 use Rattle.reader.proofs.Sendable.{done-ok, metadata-then, column-then, row-then, cell-then, message-then, done-then, done-last}
 use Rattle.round_trip.specs.Octets.{Bytes}
 use Rattle.round_trip.proofs.Ranges.{Payloads, payloads}
-use Rattle.round_trip.proofs.Accepted.{no-fault, no-test, fault-first, fault-parts, short-name, taken, no-cells, Columned, columned, whole, ErrorOk, leading-error, terminal-error}
+use Rattle.round_trip.proofs.Accepted.{no-fault, no-test, fault-first, fault-parts, short-name, taken, no-cells, Columned, columned, whole, ErrorOk, leading-error, terminal-error, by-error}
 use Rattle.round_trip.proofs.Fields.{columnType, column-fits, info-fits, error-fits, cell-ok}
 
 -- the columns of type bytes
@@ -266,10 +266,6 @@ leads (some e) qs ok w =
 stops : (e : List ℕ) → ErrorOk (some e) → WF (between []) (tokensIn (errorPieces terminalStatus (some e)))
 unfolding hasBit
 stops e ok = message-then (error-fits e (ok .0) (ok .1)) (done-last (done-ok (omega arith) (omega arith) (omega arith)) refl)
-
-by-error : {X : Type 0} (o : Option (List ℕ)) → (o ≡ none → X) → ((e : List ℕ) → o ≡ some e → X) → X
-by-error none f g = f refl
-by-error (some e) f g = g e refl
 
 -- no accepted script is without a set
 never-none : {X : Type 0} → verdictFrom Start [] ≡ 0 → X

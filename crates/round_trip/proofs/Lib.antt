@@ -5,3 +5,4 @@ pub mod Formed
 pub mod Bare
 pub mod RoundTrip
 pub mod Corollaries
+pub mod Running

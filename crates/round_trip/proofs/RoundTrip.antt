@@ -1,16 +1,15 @@
 -- The round trip: the packet that the builder leaves is that of the tokens that the script emits, which are well formed and so
 -- read back. Assumes nothing.
-use mathlib.Core.Path.{_≡_, refl, sym, ap, _∙_}
-use mathlib.Core.List.{List, [], _∷_, _++_, map}
+use mathlib.Core.Path.{_≡_, ap, _∙_}
+use mathlib.Core.List.{List, map}
 use Prim.Native.Nat.{ℕ, _+_, _≤_, _<_}
 use native.Mathlib.Omega.{arith}
 use lib.Dec.{eqb, ltb}
-use lib.ListN.{length, take, drop}
+use lib.ListN.{length, drop}
 use lib.Seq.{take-at}
-use borrow.Author.Tests.{eqb-true, ltb-false}
+use borrow.Author.Tests.{ltb-false}
 use Rattle.wire.proofs.Over.{over-eq}
 use Rattle.token.specs.Tokens.{states}
-use Rattle.result.specs.declared.Built.{Built}
 use Rattle.result.specs.declared.Built.the-variants.{Written, Refused}
 use Rattle.result.specs.Emission.{emitted, replyOf}
 use Rattle.result.specs.Refusal.{refusalOf, builtOf, bufferOf}

@@ -1,3 +1,4 @@
 pub mod Octets
 pub mod RoundTrip
 pub mod Corollaries
+pub mod Running
