@@ -68,6 +68,8 @@ def number(field, name):
 def message(field):
     numbers = [number(field, name) for name in ("number", "state", "class")]
     texts = [held(field, name) for name in ("msgtext", "servername", "procname")]
+    if number(field, "length") != int(field.get("size")) - 3:
+        texts.append("length unlike the token's")
     return field.get("name")[4:], *numbers, *texts, number(field, "linenumber")
 
 
@@ -82,7 +84,7 @@ def column(field):
     parts = {each.get("name").rpartition(".")[2]: bytes.fromhex(each.get("value") or "") for each in field}
 
     def one(*names):
-        return int.from_bytes(next(parts[name] for name in names if name in parts), "little")
+        return next((int.from_bytes(parts[name], "little") for name in names if name in parts), None)
 
     collation = b"".join(parts.get(name, b"") for name in ("collate_codepage", "collate_flags", "collate_charset_id"))
     limit = one("type_size", "large_type_size")
@@ -97,7 +99,8 @@ def cell(field):
         total = next(each for name, each in parts if name == "plp_len")
         if total.get("show") == "-1":
             return None
-        return b"".join(bytes.fromhex(each.get("value")) for name, each in parts if name == "plp_chunk")
+        joined = b"".join(bytes.fromhex(each.get("value")) for name, each in parts if name == "plp_chunk")
+        return joined if int(total.get("show")) == len(joined) else ("total", total.get("show"), joined)
     name, data = parts[-1]
     if name == "data.null":
         return None

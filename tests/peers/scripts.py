@@ -31,7 +31,7 @@ class Script:
     """Records, and the tokens that they emit."""
 
     def __init__(self, source):
-        self.source, self.records, self.tokens = source, [], []
+        self.source, self.records, self.tokens, self.alone = source, [], [], None
 
     def bytes(self):
         return b"".join(self.records)
@@ -49,10 +49,11 @@ class Script:
         self.tokens.append(("info", number, state, severity, *texts, line))
 
     def error(self, kind, status):
+        """Puts an error; answers the tokens that it is where it is sent."""
         number, severity = self.source.getrandbits(32), self.source.getrandbits(8)
         said = text(self.source, 40, LETTERS + PAIRS)
         self.put(kind, struct.pack("<IB", number, severity) + said)
-        self.tokens += [("error", number, 1, severity, said, b"", b"", 1), ("done", status, SELECT, 0)]
+        return [("error", number, 1, severity, said, b"", b"", 1), ("done", status, SELECT, 0)]
 
     def column(self, type_byte):
         collation = LATIN if type_byte == 7 else struct.pack("<IB", self.source.getrandbits(32) & ~0x0C000000, self.source.getrandbits(8))
@@ -116,37 +117,53 @@ class Script:
         for _ in range(source.choice((0, 0, 1, 2))):
             self.info(INFO)
         rows = source.choice((0, 1, 2, 5)) if types else 0
-        for _ in range(min(rows, 1) if most == 128 else rows):
-            self.put(ROW)
-            self.tokens.append(("row", *(self.cell(type_byte) for type_byte in types)))
-        count = sum(1 for token in self.tokens[start:] if token[0] == "row")
+        self.rows(types, min(rows, 1) if most == 128 else rows)
         if last:
             for _ in range(source.choice((0, 0, 1, 3))):
                 self.info(TRAILING)
+        count = sum(token[0] == "row" for token in self.tokens[start:])
         self.tokens.append(("done", 0x0000 if last else 0x0001, SELECT, count))
 
+    def rows(self, types, count):
+        for _ in range(count):
+            self.put(ROW)
+            self.tokens.append(("row", *(self.cell(type_byte) for type_byte in types)))
+
     def errors(self, first, terminal, start):
-        """Errors stand behind the columns, and in the first set only they are sent: before the set, or alone."""
-        kept, self.tokens = self.tokens, []
+        """Errors stand behind the columns. Those of the first set are sent: a leading one before the set, a terminal one alone."""
         if self.source.random() < 0.3:
-            self.error(LEADING, 0x0003)
-        if first:
-            kept[start:start] = self.tokens
-        self.tokens = []
+            sent = self.error(LEADING, 0x0003)
+            if first:
+                self.tokens[start:start] = sent
         if terminal or (not first and self.source.random() < 0.2):
-            self.error(TERMINAL, 0x0002)
-            self.alone = self.tokens if first else None
-        self.tokens = kept
+            sent = self.error(TERMINAL, 0x0002)
+            if first:
+                self.alone = sent
 
 
 def random_script(source):
     """A script that fits, and its tokens."""
     script = Script(source)
     terminal, sets = source.random() < 0.1, source.choice((1, 1, 2, 4))
-    script.alone = None
-    alone = None
     for i in range(sets):
         script.set(i == 0, i == sets - 1, terminal and i == 0)
-        if i == 0:
-            alone = script.alone
-    return script.bytes(), alone if alone else script.tokens
+    return script.bytes(), script.alone or script.tokens
+
+
+def long_scripts():
+    """Scripts of long values: a text of 8,000 bytes, Max values of up to 20,000, and 255 units of each name."""
+    name = "n" * 255
+    wide = name.encode("utf-16-le")
+    text_column = record(COLUMN, b"\5" + LATIN + wide)
+    note = record(INFO, struct.pack("<IBBI3H", 1, 2, 3, 4, 2000, 255, 255) + "m".encode("utf-16-le") * 2000 + wide + wide)
+    held = "é中".encode("utf-16-le") * 2000
+    script = record(SET) + text_column + note + record(ROW) + record(CELL, b"\5" + held)
+    said = ("info", 1, 2, 3, "m".encode("utf-16-le") * 2000, wide, wide, 4)
+    start = ("columns", 1), ("column", 0, 0, 0xE7, 8000, LATIN, wide), said
+    yield script, [*start, ("row", held), ("done", 0, SELECT, 1)]
+    for type_byte, unit in ((6, b"x\0"), (7, b"x"), (8, b"\xFF")):
+        held = unit * 10000
+        collation = LATIN if type_byte in WITH_COLLATION else b""
+        script = record(SET) + record(COLUMN, bytes([type_byte]) + LATIN) + record(ROW) + record(CELL, bytes([MAX_VALUES[type_byte]]))
+        column = ("column", 0, 0, *TYPES[type_byte], collation, b"")
+        yield script + record(CHUNK, held) + record(CHUNK, unit), [("columns", 1), column, ("row", held + unit), ("done", 0, SELECT, 1)]
