@@ -11,6 +11,7 @@ use crate::random::Random;
 use crate::refusal::*;
 use crate::script::fit::misfits;
 use crate::script::records::*;
+use crate::tokens;
 use crate::utf16;
 use std::collections::BTreeSet;
 
@@ -200,6 +201,27 @@ fn scripts_that_shall_fit_do_and_damage_meets_every_refusal() {
     }
     let scripts_own = RECORD_CUT..=LONG_NAME;
     assert!(scripts_own.into_iter().all(|number| met.contains(&Some(number))), "{met:?}");
+}
+
+#[test]
+fn scripts_emit_their_tokens() {
+    let of = |records: &[Record]| tokens::lines(&written(records)).map(|lines| lines.join(" | "));
+    let text = |text: &str| Some(text.to_string());
+    assert_eq!(of(&[set(&[])]), text("81 0 | FD 0000 00C1 0 | end"));
+    let mut script = vec![set(&[]), error(LEADING, 8, 9, b"e\0"), set(&[])];
+    script.extend([column(2, COLLATION, b"n\0"), column(7, COLLATION, b"")]);
+    script.extend([error(TERMINAL, 8, 9, b""), row(), cell(2, &[0, 0x80]), cell(8, &[])]);
+    script.extend([chunk(&[1]), chunk(&[2, 3]), row(), cell(10, &[]), cell(7, &[])]);
+    script.push(info(TRAILING, b"m\0", b"s\0", b""));
+    let lines = "AA 8 1 9 1 6500 - - | FD 0003 00C1 0 | 81 0 | FD 0001 00C1 0 | 81 2 | \
+                 col 0 0000 26 2 - 6E00 | col 0 0000 A7 65535 0102030405 - | \
+                 D1 | num -32768 | part 010203 | D1 | null | null | \
+                 AB 50000 1 10 7 6D00 7300 - | FD 0000 00C1 2 | end";
+    assert_eq!(of(&script), text(lines));
+    script[1] = error(TERMINAL, 8, 9, b"e\0");
+    assert_eq!(of(&script), text("AA 8 1 9 1 6500 - - | FD 0002 00C1 0 | end"));
+    assert_eq!(of(&[set(&[]), row()]), None);
+    assert_eq!(of(&[row()]), None);
 }
 
 #[test]

@@ -1,7 +1,7 @@
 //! Compares the static library `station` with the Rust modules it is a port of.
 //!
 //! `oracle [quick|large] [GROUP ..] [seed=N] [trace]` compares; `oracle vectors N [seed=N]`
-//! prints what the Rust answers.
+//! prints what the Rust answers, `oracle tokens N [seed=N]` what scripts emit.
 
 // Where a group is not built in, what only it uses is left over.
 #![cfg_attr(
@@ -27,6 +27,7 @@ mod random;
 mod refusal;
 mod script;
 mod station;
+mod tokens;
 mod utf16;
 mod vectors;
 
@@ -39,7 +40,8 @@ use std::time::Instant;
 
 const USAGE: &str = "\
 oracle [quick|large] [header|text|request|login|result|response ..] [seed=N] [trace]
-oracle vectors N [seed=N]";
+oracle vectors N [seed=N]
+oracle tokens N [seed=N]";
 const SEED: u64 = 20_260_101;
 
 fn main() -> ExitCode {
@@ -50,10 +52,8 @@ fn main() -> ExitCode {
         words.iter().map(String::as_str).filter(|word| !word.starts_with("seed=")).collect();
     let done = match (seed, words.as_slice()) {
         (None, _) => None,
-        (Some(seed), ["vectors", count]) => count.parse().ok().map(|count| {
-            vectors::print(seed, count);
-            ExitCode::SUCCESS
-        }),
+        (Some(seed), ["vectors", count]) => printed(count, |count| vectors::print(seed, count)),
+        (Some(seed), ["tokens", count]) => printed(count, |count| tokens::print(seed, count)),
         (Some(seed), words) => {
             chosen(words).map(|(large, groups)| compare(Size { large, seed }, &groups))
         }
@@ -62,6 +62,12 @@ fn main() -> ExitCode {
         eprintln!("{USAGE}");
         ExitCode::from(2)
     })
+}
+
+/// Prints as many as the word says; none where it is no number.
+fn printed(count: &str, print: impl Fn(usize)) -> Option<ExitCode> {
+    print(count.parse().ok()?);
+    Some(ExitCode::SUCCESS)
 }
 
 /// The size and the groups that the words choose; none where a word is not known.
