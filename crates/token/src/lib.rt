@@ -7,6 +7,7 @@ ghost use lib.ListN.{length};
 ghost use Rattle.wire.specs.Fields.{flat, word, raw};
 ghost use Rattle.wire.specs.Over.{overwrite, PlaceBehind};
 ghost use Rattle.token.specs.Types.{dataTypeOf, typeCode, typeLength, lengthWidth, collationSize};
+ghost use Rattle.token.specs.Values.{columnValueOf, valueType};
 ghost use Rattle.token.specs.Tokens.{metadata, column, row, cell, done, message, integer, noInteger, bounded, noLong, bytesOf, usVarchar, bVarchar, messageHead, messageLength, typeFields};
 
 // The codes of tokens, as MS-TDS numbers them.
@@ -101,6 +102,56 @@ pub fn collation_size(code: u8) -> usize
         0xE7 => 5,
         0xA7 => 5,
         _ => 0,
+    }
+}
+
+// The values of a cell, in the order of a script's value bytes 1 to 10; what a value holds stands in its record.
+pub enum ColumnValue {
+    TinyInt,
+    SmallInt,
+    Int,
+    BigInt,
+    NVarChar,
+    NVarCharMax,
+    NVarCharMaxNull,
+    VarCharMax,
+    VarBinaryMax,
+    Null,
+}
+
+// The value that a script's value byte stands for.
+pub fn column_value_of(b: u8) -> ColumnValue
+    ensures { λ r. ⌜ r ≡ columnValueOf b ⌝ }
+{
+    match b {
+        1 => ColumnValue::TinyInt,
+        2 => ColumnValue::SmallInt,
+        3 => ColumnValue::Int,
+        4 => ColumnValue::BigInt,
+        5 => ColumnValue::NVarChar,
+        6 => ColumnValue::NVarCharMax,
+        7 => ColumnValue::NVarCharMaxNull,
+        8 => ColumnValue::VarCharMax,
+        9 => ColumnValue::VarBinaryMax,
+        _ => ColumnValue::Null,
+    }
+}
+
+// The data type of a value; a null's is Int.
+pub fn data_type(value: ColumnValue) -> SqlDataType
+    ensures { λ r. ⌜ r ≡ valueType value ⌝ }
+{
+    match value {
+        ColumnValue::TinyInt => SqlDataType::TinyInt,
+        ColumnValue::SmallInt => SqlDataType::SmallInt,
+        ColumnValue::Int => SqlDataType::Int,
+        ColumnValue::BigInt => SqlDataType::BigInt,
+        ColumnValue::NVarChar => SqlDataType::NVarChar,
+        ColumnValue::NVarCharMax => SqlDataType::NVarCharMax,
+        ColumnValue::NVarCharMaxNull => SqlDataType::NVarCharMax,
+        ColumnValue::VarCharMax => SqlDataType::VarCharMax,
+        ColumnValue::VarBinaryMax => SqlDataType::VarBinaryMax,
+        ColumnValue::Null => SqlDataType::Int,
     }
 }
 
