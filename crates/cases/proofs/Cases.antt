@@ -35,6 +35,7 @@ use Rattle.token.specs.Types.{dataTypeOf, lengthWidth, collationSize}
 use Rattle.token.specs.Tokens.{nameCount, messageLength}
 use Rattle.token.specs.Tokens.{bytesOf as Token·bytesOf}
 use Rattle.result.specs.Runs.{ahead}
+use Rattle.token.specs.Values.{columnValueOf}
 use Rattle.result.specs.Emission.{cellOf, piecesOf, rowsAfter, emitFrom, errorIn, emittedBy, pieces, bytesIn, replyOf}
 use Rattle.result.specs.Refusal.{faultIn, refusalOf}
 use Rattle.response.specs.Answer.{Reply, reply}
@@ -130,5 +131,5 @@ table a b c d e =
     ∷ []
 
 pub cases : (a b c d e : ℕ) → map (λ (row : Call × Answer). answer (row .0)) (table a b c d e) ≡ map (λ (row : Call × Answer). row .1) (table a b c d e)
-unfolding table answer le leAt be flat bytesOf unitsOf units total surrogateOf surrogates paired wellFormed charactersIn characters utf8In utf8Length inAny isWhitespace leading trailing kept trimmed replyHeader packetOf allHeaders sqlFrom batchText sqlBatch transactionRequest descriptorIn transactionDescriptor fedAuthToken parse records cellStage stageAfter columnShaped numberWidth cellShaped shaped textsOf allWellFormed faultOf verdictFrom verdictOf dataTypeOf lengthWidth collationSize nameCount messageLength Token·bytesOf ahead cellOf piecesOf rowsAfter emitFrom errorIn emittedBy pieces bytesIn replyOf faultIn refusalOf attentionReply transactionReply routeReply errorReply textFault
+unfolding table answer le leAt be flat bytesOf unitsOf units total surrogateOf surrogates paired wellFormed charactersIn characters utf8In utf8Length inAny isWhitespace leading trailing kept trimmed replyHeader packetOf allHeaders sqlFrom batchText sqlBatch transactionRequest descriptorIn transactionDescriptor fedAuthToken parse records cellStage stageAfter columnShaped numberWidth cellShaped shaped textsOf allWellFormed faultOf verdictFrom verdictOf dataTypeOf lengthWidth collationSize nameCount messageLength Token·bytesOf columnValueOf ahead cellOf piecesOf rowsAfter emitFrom errorIn emittedBy pieces bytesIn replyOf faultIn refusalOf attentionReply transactionReply routeReply errorReply textFault
 cases a b c d e = refl

@@ -9,7 +9,7 @@ use mathlib.Core.List.{List, [], _∷_, _++_, cons≢nil, append-eq-nil-iff, map
 use native.Mathlib.Omega.{arith}
 use lib.Dec.{eqb, leb, ltb}
 use lib.ListN.{length, drop}
-use borrow.Author.Tests.{eq-eqb, ne-eqb, eqb-true, eqb-false, leb-true, ltb-true, not-true}
+use borrow.Author.Tests.{ne-eqb, eqb-true, eqb-false, leb-true, ltb-true, not-true}
 use Rattle.wire.specs.Le.{leAt}
 use Rattle.text.specs.Surrogates.{hasPair}
 use Rattle.script.specs.Records.{Item, item, records}
@@ -185,8 +185,3 @@ fits-yes s e =
     either (eqb (refusalOf s) 0)
     (λ h. (eqb-true (refusalOf s) 0 h, none-first (misfits (records s)) (rw h at e)))
     (λ h. let c : _≡_ (Refused (refusalOf s)) Yes = rw h at e in let z : _≡_ {A = ℕ} 0 1 = cc in absurd (omega arith))
-
--- and where it is said
-pub yes-fits : (s : List ℕ) → refusalOf s ≡ 0 → misfits (records s) ≡ [] → fitOf s ≡ Yes
-unfolding fitOf
-yes-fits s h g = rw (eq-eqb (refusalOf s) 0 h, g)

@@ -17,12 +17,6 @@ use Rattle.login.specs.declared.Found.the-variants.{Here, End}
 use Rattle.login.specs.Body.{featuresAt}
 use Rattle.login.specs.Features.{walk, features, featuresFrom, follow, Lies}
 
--- nothing is left to walk over
-walk-nil : (at n : ℕ) → walk at n [] ≡ []
-unfolding walk
-walk-nil at zero = refl
-walk-nil at (suc n) = refl
-
 -- bytes that are passed over, as far as they are there
 pass : (n at : ℕ) (l : List ℕ) → walk at n l ≡ walk (at + n) 0 (drop n l)
 unfolding walk

@@ -14,7 +14,7 @@ use Rattle.reader.specs.declared.cell_reader.ChunkRead.the-variants as c
 use Rattle.reader.specs.Places.{Place, Read, whole, refused, numberAt, partAt, must, then, partTo}
 use Rattle.reader.specs.Cells.{isChunk, isLast, chunksAt}
 use Rattle.reader.specs.Code.{chunkRead, chunkAt}
-use Rattle.reader.proofs.CodeReads.{clash, then-same, then-got, then-not, if-so, if-not, number-over, must-over, part-over}
+use Rattle.reader.proofs.CodeReads.{clash, then-same, then-got, then-not, if-not, number-over, must-over, part-over}
 
 -- ---- what the answer for a chunk tells
 

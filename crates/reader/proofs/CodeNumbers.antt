@@ -1,6 +1,6 @@
 -- A number of k bytes summed from its highest byte down: what each turn of the loop adds, and what it begins and ends with.
 -- Assumes nothing.
-use mathlib.Core.Path.{_≡_, refl, _∙_}
+use mathlib.Core.Path.{_≡_, _∙_}
 use mathlib.Core.List.{List}
 use Prim.Native.Nat.{ℕ, suc, _+_, _-_, _*_, _<_, _≤_, _^_}
 use native.Mathlib.Nat.{pow-le-pow-right, lt-of-lt-of-le, pow-suc}

@@ -2,7 +2,6 @@
 use mathlib.Core.Path.{_≡_, refl}
 use mathlib.Core.List.{List}
 use Prim.Native.Nat.{ℕ, _-_}
-use Rattle.wire.specs.declared.Part.{Part}
 use Rattle.reader.specs.declared.Token.{Token}
 use Rattle.reader.specs.declared.Token.the-variants.{Message}
 use Rattle.reader.specs.declared.token_reader.Texts.{Texts}

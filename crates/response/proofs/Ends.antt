@@ -1,6 +1,6 @@
 -- How builders end: one law for each way, over the fault, the size that was worked out, the bytes and the lent buffer.
 -- A size may be cut off at 65,536: it refuses all the same. Assumes nothing.
-use Prim.Native.Nat.{ℕ, zero, suc, _+_, _≤_, _<_, min}
+use Prim.Native.Nat.{ℕ, zero, suc, _+_, _≤_, _<_}
 use mathlib.Core.Path.{_≡_, refl, sym, ap, _∙_}
 use mathlib.Core.Bool.{cond}
 use mathlib.Core.List.{List}
@@ -8,9 +8,9 @@ use native.Mathlib.Nat.{lt-of-not-le}
 use native.Mathlib.Decide.{decLe}
 use native.Mathlib.Omega.{arith}
 use lib.ListN.{length}
-use lib.Dec.{eqb, ltb}
+use lib.Dec.{eqb}
 use borrow.Author.Tests.{ne-eqb, lt-ltb, le-ltb}
-use Rattle.wire.specs.Over.{overwrite, Wrote}
+use Rattle.wire.specs.Over.{Wrote}
 use Rattle.wire.proofs.Over.{then}
 use Rattle.packet.specs.Reply.{replyHeader, packetOf}
 use Rattle.packet.proofs.Sizes.{length-packet}

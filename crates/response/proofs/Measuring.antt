@@ -1,13 +1,13 @@
 -- A turn over a list's records: its refusal, and its size so far. Assumes nothing.
 use Prim.Native.Nat.{ℕ, _+_, _-_, _≤_, min}
-use mathlib.Core.Path.{_≡_, refl, sym, ap, _∙_}
-use mathlib.Core.List.{List, [], _∷_, _++_}
+use mathlib.Core.Path.{_≡_, sym, ap, _∙_}
+use mathlib.Core.List.{List, _∷_}
 use native.Mathlib.Nat.{add-sub-cancel-left}
 use native.Mathlib.Omega.{arith}
 use lib.ListN.{length, take, drop, length-append}
 use borrow.Author.Tests.{ne-eqb}
 use Rattle.script.specs.declared.Found.the-variants.{Record, Cut, End}
-use Rattle.script.specs.Records.{Item, item, cut, records, recordAt}
+use Rattle.script.specs.Records.{Item, item, records, recordAt}
 use Rattle.script.proofs.Walk.{turn, cuts, ends}
 use Rattle.response.specs.declared.ListKind.{ListKind}
 use Rattle.response.specs.Lists.{itemFault, listFault, itemBytes, listBytes}

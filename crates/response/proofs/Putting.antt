@@ -1,14 +1,14 @@
 -- A turn of the writer over a list's records. Assumes nothing.
 use Prim.Native.Nat.{ℕ, _+_, _-_, _≤_, min}
-use mathlib.Core.Path.{_≡_, refl, sym, ap, _∙_}
-use mathlib.Core.List.{List, [], _∷_, _++_}
+use mathlib.Core.Path.{_≡_, refl, ap, _∙_}
+use mathlib.Core.List.{List, [], _∷_}
 use native.Mathlib.Nat.{add-sub-cancel-left}
 use native.Mathlib.Omega.{arith}
 use lib.ListN.{length, take, drop}
 use Rattle.wire.specs.Over.{Wrote}
 use Rattle.wire.proofs.Over.{then, length-over}
 use Rattle.script.specs.declared.Found.the-variants.{Record, Cut, End}
-use Rattle.script.specs.Records.{Item, item, cut, records, recordAt}
+use Rattle.script.specs.Records.{item, records, recordAt}
 use Rattle.script.proofs.Walk.{turn, cuts, ends}
 use Rattle.response.specs.Lists.{itemBytes, listBytes}
 use Rattle.response.proofs.Writing.{nothing}

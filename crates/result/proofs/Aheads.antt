@@ -1,9 +1,9 @@
 -- A loop over the records of one kind that stand next: what it has reached, one record more, and its end. Assumes nothing.
 use mathlib.Core.Path.{_≡_, refl, sym, ap, _∙_}
-use mathlib.Core.Bool.{Bool, true, false, cond}
-use mathlib.Core.List.{List, [], _∷_, _++_}
-use Prim.Native.Nat.{ℕ, zero, suc, _+_, _-_, _≤_, _<_}
-use native.Mathlib.Nat.{add-sub-cancel-left, add-zero, zero-add, add-assoc}
+use mathlib.Core.Bool.{cond}
+use mathlib.Core.List.{List, [], _∷_}
+use Prim.Native.Nat.{ℕ, zero, suc, _+_, _-_, _≤_}
+use native.Mathlib.Nat.{add-sub-cancel-left, add-zero, zero-add}
 use native.Mathlib.Omega.{arith}
 use lib.Dec.{eqb, eqb·suc-zero}
 use lib.ListN.{length, take, drop, length-append, length-drop}
@@ -11,7 +11,7 @@ use lib.Seq.{length-take-le}
 use borrow.Author.Tests.{eq-eqb, ne-eqb}
 use Rattle.token.specs.Tokens.{joined}
 use Rattle.script.specs.declared.Found.the-variants.{Record, Cut, End}
-use Rattle.script.specs.Records.{Item, item, cut, records, recordAt}
+use Rattle.script.specs.Records.{Item, records, recordAt}
 use Rattle.script.proofs.Walk.{lies, turn, cuts, ends}
 use Rattle.result.specs.declared.Run.{Run}
 use Rattle.result.specs.Runs.{ahead, behind}

@@ -1,25 +1,22 @@
 -- Faults and size of a whole reply, from those of its pieces. Assumes nothing.
 use mathlib.Core.Path.{_≡_, refl, sym, ap, _∙_}
-use mathlib.Core.Bool.{Bool, true, false, cond}
 use mathlib.Core.List.{List, [], _∷_, _++_}
 use mathlib.Core.Option.{Option, none, some}
-use Prim.Native.Nat.{ℕ, zero, suc, _+_, _-_, _≤_, _<_}
-use native.Mathlib.Nat.{add-sub-cancel-left, add-zero}
+use Prim.Native.Nat.{ℕ, _+_, _-_, _≤_, _<_}
+use native.Mathlib.Nat.{add-sub-cancel-left}
 use native.Mathlib.Omega.{arith}
-use lib.Dec.{eqb}
 use lib.ListN.{length, take, drop}
-use borrow.Author.Tests.{eq-eqb, ne-eqb, lt-ltb, le-ltb}
+use borrow.Author.Tests.{ne-eqb, lt-ltb, le-ltb}
 use Rattle.wire.specs.Le.{leAt}
-use Rattle.packet.specs.Reply.{packetOf}
 use Rattle.packet.proofs.Sizes.{length-packet}
 use Rattle.script.specs.declared.Found.the-variants.{Record, Cut, End}
-use Rattle.script.specs.Records.{Item, item, cut, records, recordAt}
+use Rattle.script.specs.Records.{Item, records, recordAt}
 use Rattle.script.specs.Verdict.{verdictOf}
 use Rattle.script.proofs.Walk.{turn, cuts, ends}
 use Rattle.result.specs.declared.Turn.{Turn}
 use Rattle.result.specs.declared.Sized.{Sized}
 use Rattle.result.specs.declared.Measure.the-variants.{Size, Refused}
-use Rattle.result.specs.Emission.{Piece, told, errorToken, doneToken, errorPieces, setPieces, setsOf, orSets, emitFrom, errorIn, emittedBy, pieces, bytesIn, replyOf, leadingStatus, terminalStatus}
+use Rattle.result.specs.Emission.{Piece, told, errorToken, doneToken, errorPieces, setPieces, setsOf, emitFrom, errorIn, emittedBy, pieces, bytesIn, replyOf, leadingStatus, terminalStatus}
 use Rattle.result.specs.Refusal.{faultIn, refusalOf}
 use Rattle.result.specs.Room.{measureOf}
 use Rattle.result.specs.Inner.{capped, Turned, Sizes}

@@ -1,19 +1,19 @@
 -- The sizes and faults of tokens and pieces. Assumes nothing.
 use mathlib.Core.Path.{_≡_, refl, sym, ap, _∙_}
-use mathlib.Core.Bool.{Bool, true, false, cond, _||_}
+use mathlib.Core.Bool.{cond}
 use mathlib.Core.List.{List, [], _∷_, _++_, append-assoc}
-use Prim.Native.Nat.{ℕ, zero, suc, _+_, _*_, _≤_, min}
+use Prim.Native.Nat.{ℕ, zero, suc, _+_, _≤_}
 use native.Mathlib.Omega.{arith}
 use lib.Dec.{eqb, eqb·suc-zero}
 use lib.ListN.{length, length-append}
-use Rattle.wire.specs.Fields.{Field, word, raw, flat}
+use Rattle.wire.specs.Fields.{flat}
 use Rattle.wire.proofs.Fields.{size-none, size-word, size-raw}
 use Rattle.token.specs.Types.{lengthWidth}
-use Rattle.token.specs.Tokens.{Token, metadata, column, row, cell, done, message, Sent, integer, noInteger, bounded, long, noLong, joined, put, putCell, putChunks, bytesOf, messageLength, nameCount}
+use Rattle.token.specs.Tokens.{Token, metadata, column, row, cell, done, message, Sent, integer, noInteger, bounded, long, noLong, putChunks, bytesOf}
 use Rattle.token.proofs.Puts.{bytes-before}
-use Rattle.result.specs.Emission.{Piece, told, classified, putPieces, bytesIn, columnPieces, columnToken}
-use Rattle.result.specs.Refusal.{pieceFault, faultIn, anyEmpty, tokenFault}
-use Rattle.result.specs.Inner.{capped, recordSize, recordFault, runSize, runFault}
+use Rattle.result.specs.Emission.{Piece, told, classified, putPieces, bytesIn}
+use Rattle.result.specs.Refusal.{pieceFault, faultIn}
+use Rattle.result.specs.Inner.{capped, recordSize, runSize}
 
 -- ---- sizes as far as they matter
 

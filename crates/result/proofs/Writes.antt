@@ -1,21 +1,18 @@
 -- A turn of the loops that write: what is still to be written, and one record less of it. Assumes nothing.
 use mathlib.Core.Path.{_≡_, refl, sym, ap, _∙_}
-use mathlib.Core.Bool.{Bool, true, false, cond}
 use mathlib.Core.List.{List, [], _∷_, _++_, append-assoc, append-nil}
-use Prim.Native.Nat.{ℕ, zero, suc, _+_, _-_, _≤_, min}
+use Prim.Native.Nat.{ℕ, _+_, _-_, _≤_}
 use native.Mathlib.Nat.{add-sub-cancel-left}
 use native.Mathlib.Omega.{arith}
-use lib.Dec.{eqb}
 use lib.ListN.{length, take, drop}
 use borrow.Author.Tests.{eq-eqb, ne-eqb}
 use Rattle.wire.specs.Le.{le}
 use Rattle.wire.specs.Over.{Wrote, overwrite}
-use Rattle.wire.specs.Fields.{Field, word, raw, flat}
-use Rattle.wire.proofs.Over.{then, wrote-as, ended, length-over}
-use Rattle.wire.proofs.Fields.{then-fields}
+use Rattle.wire.specs.Fields.{word, raw, flat}
+use Rattle.wire.proofs.Over.{then, wrote-as, length-over}
 use Rattle.token.specs.Tokens.{Token, metadata, cell, Sent, long, joined, bytesOf, putChunks}
 use Rattle.script.specs.declared.Found.the-variants.{Record, Cut, End}
-use Rattle.script.specs.Records.{Item, records, recordAt}
+use Rattle.script.specs.Records.{records, recordAt}
 use Rattle.script.proofs.Walk.{turn, cuts, ends}
 use Rattle.result.specs.Runs.{ahead}
 use Rattle.result.specs.Emission.{Piece, told, classified, columnToken, columnPieces, piecesOf, rowsAfter, emitFrom, bytesIn, doneToken, lastStatus}

@@ -1,17 +1,20 @@
 -- What a script emits (document 01, 'What a script emits', 'The reply packet'): the token list, from the script's records
 -- alone, and the reply's bytes. Rests on the records and shapes of script, the tokens of token and the packet of packet.
 use Prim.Native.Nat.{ℕ, suc}
-use mathlib.Core.Bool.{cond, _&&_, _||_}
+use mathlib.Core.Bool.{cond, _||_}
 use mathlib.Core.List.{List, [], _∷_, _++_}
 use mathlib.Core.Option.{Option, none, some}
-use lib.Dec.{eqb, leb}
+use lib.Dec.{eqb}
 use lib.ListN.{length, take, drop}
 use Rattle.wire.specs.Le.{leAt}
 use Rattle.wire.specs.Fields.{Field, raw, flat}
 use Rattle.packet.specs.Reply.{packetOf}
 use Rattle.script.specs.Records.{Item, item, cut, records}
-use Rattle.script.specs.Shape.{numberWidth, message, server, procedure}
+use Rattle.script.specs.Shape.{message, server, procedure}
 use Rattle.token.specs.Types.{dataTypeOf, typeCode, typeLength, collationSize}
+use Rattle.token.specs.Values.{columnValueOf}
+use Rattle.token.specs.declared.ColumnValue.{ColumnValue}
+use Rattle.token.specs.declared.ColumnValue.the-variants.{TinyInt, SmallInt, Int, BigInt, NVarChar, NVarCharMax, NVarCharMaxNull, VarCharMax, VarBinaryMax, Null}
 use Rattle.token.specs.Tokens.{Token, metadata, column, row, cell, done, Sent, integer, noInteger, bounded, long, noLong, put}
 use Rattle.token.specs.Tokens.{message as Token·message}
 use Rattle.result.specs.Runs.{ahead}
@@ -48,14 +51,21 @@ leadingStatus = 0x0003
 abbrev pub terminalStatus : ℕ
 terminalStatus = 0x0002
 
--- a cell, by its value byte: 1 to 4 the number, 5 the text, 6, 8 and 9 its chunks, 7 and 10 null
+-- a cell by its value: a number, the text, its chunks, or null; x stands behind the value byte
+abbrev pub valueCell : ColumnValue → List ℕ → List (List ℕ) → Sent
+valueCell TinyInt x chunks = integer 1 (leAt 1 x)
+valueCell SmallInt x chunks = integer 2 (leAt 2 x)
+valueCell Int x chunks = integer 4 (leAt 4 x)
+valueCell BigInt x chunks = integer 8 (leAt 8 x)
+valueCell NVarChar x chunks = bounded x
+valueCell NVarCharMax x chunks = long chunks
+valueCell NVarCharMaxNull x chunks = noLong
+valueCell VarCharMax x chunks = long chunks
+valueCell VarBinaryMax x chunks = long chunks
+valueCell Null x chunks = noInteger
+
 unfoldable pub cellOf : List ℕ → List (List ℕ) → Sent
-cellOf p chunks =
-    let v = leAt 1 p in
-    cond (leb 1 v && leb v 4) (integer (numberWidth v) (leAt (numberWidth v) (drop 1 p)))
-    (cond (eqb v 5) (bounded (drop 1 p))
-    (cond (eqb v 6 || eqb v 8 || eqb v 9) (long chunks)
-    (cond (eqb v 7) noLong noInteger)))
+cellOf p chunks = valueCell (columnValueOf (leAt 1 p)) (drop 1 p) chunks
 
 -- ---- what the records emit, one after another
 

@@ -72,6 +72,10 @@ pub record Turned (ps : List Piece) (s : List ℕ) (next : ℕ) (r : Turn) : Typ
   pub size : r .size ≡ capped (length (bytesIn ps))
   pub goes : GoesOn s next (r .next)
 
+-- a turn that has no fault and takes no other record with it
+abbrev pub plainTurn : ℕ → ℕ → Turn
+plainTurn size next = record { fault = 0; size = size; next = next }
+
 -- a turn behind the DONE of the set before
 unfoldable pub behindDone : Turn → Turn
 behindDone t = record { fault = t .fault; size = capped (13 + t .size); next = t .next }

@@ -1,7 +1,7 @@
 -- Which scripts the reply builder refuses, and by which number (document 01, 'Who causes which refusal'): 11 to 14 of the
 -- script, then, in what is emitted only, the first of 15 and 16, then 17, then 20. Rests on Emission and script's verdict.
 use Prim.Native.Nat.{ℕ}
-use mathlib.Core.Bool.{Bool, true, false, cond, _||_}
+use mathlib.Core.Bool.{Bool, false, cond, _||_}
 use mathlib.Core.List.{List, [], _∷_}
 use lib.Dec.{eqb, ltb}
 use lib.ListN.{length}

@@ -2,9 +2,10 @@
 // estimate and the fit check. Three passes over the records: the script's verdict, faults and size of what is emitted, and
 // the writing, which comes after every refusal is ruled out.
 use script::Found;
+use token::ColumnValue;
 use wire::Part;
 ghost use mathlib.Core.Path.{_≡_};
-ghost use mathlib.Core.Bool.{cond, true, false, _||_};
+ghost use mathlib.Core.Bool.{cond, true, _||_};
 ghost use Prim.Native.Nat.{_+_, _^_, _≤_, _<_};
 ghost use lib.Dec.{eqb};
 ghost use lib.ListN.{length, take, drop};
@@ -13,8 +14,7 @@ ghost use Rattle.token.specs.Types.{dataTypeOf, typeCode, collationSize};
 ghost use Rattle.token.specs.Tokens.{bytesOf};
 ghost use mathlib.Core.List.{[], _∷_, _++_};
 ghost use Rattle.script.specs.Records.{records};
-ghost use Rattle.script.specs.Shape.{numberWidth};
-ghost use Rattle.token.specs.Tokens.{cell, integer, long};
+ghost use Rattle.token.specs.Tokens.{cell, long};
 ghost use Rattle.result.specs.Runs.{ahead};
 ghost use Rattle.result.specs.Emission.{told, columnToken, infoToken, cellOf, setPieces, piecesOf, rowsAfter, emitFrom, errorIn, errorPieces, leadingStatus, setsOf, pieces, bytesIn, columnPieces};
 ghost use mathlib.Core.Option.{some};
@@ -23,7 +23,7 @@ ghost use Rattle.wire.specs.Fields.{flat};
 ghost use Rattle.token.specs.Tokens.{putChunks};
 ghost use Rattle.result.specs.Room.{measureOf, isRoom};
 ghost use Rattle.result.specs.Refusal.{tokenFault, longName, builtOf, bufferOf};
-ghost use Rattle.result.specs.Inner.{capped, recordSize, recordFault, longerRun, Ahead, Turned, Sizes, errorFound, behindDone, Put};
+ghost use Rattle.result.specs.Inner.{capped, recordSize, recordFault, longerRun, Ahead, Turned, plainTurn, Sizes, errorFound, behindDone, Put};
 
 // What a builder answers: the bytes written, or the refusal's number.
 pub enum Built {
@@ -306,36 +306,34 @@ fn chunked_turn(s: &[u8], next: usize) -> Turn
     }
 }
 
+// A record that has no fault and takes no other with it.
+fn plain_turn(size: usize, next: usize) -> Turn
+    ensures { λ r. ⌜ r ≡ plainTurn size next ⌝ }
+{
+    Turn {
+        fault: NONE,
+        size,
+        next,
+    }
+}
+
 // A cell, with its chunks where it has them.
 fn cell_turn(s: &[u8], p: &[u8], next: usize) -> Turn
     requires { ⌜ next ≤ length (now s) ⌝ }
     ensures { λ r. ⌜ Turned (told (cell (cellOf (now (p .entry)) (ahead 6 (records (drop next (now (s .entry))))))) ∷ []) (now (s .entry)) next r ⌝ }
 {
-    let value = wire::get_u8(p, 0);
-    if (1 <= value) & (value <= 4) {
-        let size = 1 + script::number_width(value) as usize;
-        return Turn {
-            fault: NONE,
-            size,
-            next,
-        };
-    }
-    if value == 5 {
-        let size = grown(2, script::behind(p, 1).len());
-        return Turn {
-            fault: NONE,
-            size,
-            next,
-        };
-    }
-    if (value == 6) | (value == 8) | (value == 9) {
-        return chunked_turn(s, next);
-    }
-    let size = if value == 7 { 8 } else { 1 };
-    Turn {
-        fault: NONE,
-        size,
-        next,
+    let value = token::column_value_of(wire::get_u8(p, 0));
+    match value {
+        ColumnValue::TinyInt => plain_turn(2, next),
+        ColumnValue::SmallInt => plain_turn(3, next),
+        ColumnValue::Int => plain_turn(5, next),
+        ColumnValue::BigInt => plain_turn(9, next),
+        ColumnValue::NVarChar => plain_turn(grown(2, script::behind(p, 1).len()), next),
+        ColumnValue::NVarCharMax => chunked_turn(s, next),
+        ColumnValue::NVarCharMaxNull => plain_turn(8, next),
+        ColumnValue::VarCharMax => chunked_turn(s, next),
+        ColumnValue::VarBinaryMax => chunked_turn(s, next),
+        ColumnValue::Null => plain_turn(1, next),
     }
 }
 
@@ -642,48 +640,45 @@ fn put_chunked(buf: &mut [u8], at: usize, s: &[u8], next: usize) -> Placed
     }
 }
 
-// A cell of an integer, by its value byte 1 to 4.
-fn put_number(buf: &mut [u8], at: usize, p: &[u8], value: u8) -> usize
-    ensures { λ _. ⌜ now (buf .exit) ≡ overwrite (now (buf .entry)) at (bytesOf (cell (integer (numberWidth value) (leAt (numberWidth value) (drop 1 (now (p .entry))))))) ⌝ }
-    ensures { λ r. ⌜ PlaceBehind (now (buf .entry)) at (bytesOf (cell (integer (numberWidth value) (leAt (numberWidth value) (drop 1 (now (p .entry))))))) r ⌝ }
-{
-    match value {
-        1 => token::put_tinyint(buf, at, wire::get_u8(p, 1)),
-        2 => token::put_smallint(buf, at, wire::get_u16_le(p, 1)),
-        3 => token::put_int(buf, at, wire::get_u32_le(p, 1)),
-        _ => token::put_bigint(buf, at, wire::get_u64_le(p, 1)),
-    }
-}
-
-// A cell without chunks.
-fn put_plain(buf: &mut [u8], at: usize, p: &[u8], value: u8) -> usize
-    requires { ⌜ (value ≡ leAt 1 (now p)) × ((eqb value 6 || eqb value 8 || eqb value 9) ≡ false) ⌝ }
-    ensures { λ _. ⌜ now (buf .exit) ≡ overwrite (now (buf .entry)) at (bytesOf (cell (cellOf (now (p .entry)) []))) ⌝ }
-    ensures { λ r. ⌜ PlaceBehind (now (buf .entry)) at (bytesOf (cell (cellOf (now (p .entry)) []))) r ⌝ }
-{
-    if (1 <= value) & (value <= 4) {
-        return put_number(buf, at, p, value);
-    }
-    if value == 5 {
-        return token::put_nvarchar(buf, at, script::behind(p, 1));
-    }
-    if value == 7 {
-        return token::put_plp_null(buf, at);
-    }
-    token::put_null(buf, at)
-}
-
 // A cell, with its chunks where it has them.
 fn put_cell(buf: &mut [u8], at: usize, s: &[u8], p: &[u8], next: usize) -> Placed
     requires { ⌜ next ≤ length (now s) ⌝ }
     ensures { λ r. ⌜ Put (now (buf .entry)) at (bytesOf (cell (cellOf (now (p .entry)) (ahead 6 (records (drop next (now (s .entry)))))))) (now (buf .exit)) (now (s .entry)) next r ⌝ }
 {
-    let value = wire::get_u8(p, 0);
-    if (value == 6) | (value == 8) | (value == 9) {
-        return put_chunked(buf, at, s, next);
+    let value = token::column_value_of(wire::get_u8(p, 0));
+    match value {
+        ColumnValue::TinyInt => Placed {
+            place: token::put_tinyint(buf, at, wire::get_u8(p, 1)),
+            next,
+        },
+        ColumnValue::SmallInt => Placed {
+            place: token::put_smallint(buf, at, wire::get_u16_le(p, 1)),
+            next,
+        },
+        ColumnValue::Int => Placed {
+            place: token::put_int(buf, at, wire::get_u32_le(p, 1)),
+            next,
+        },
+        ColumnValue::BigInt => Placed {
+            place: token::put_bigint(buf, at, wire::get_u64_le(p, 1)),
+            next,
+        },
+        ColumnValue::NVarChar => Placed {
+            place: token::put_nvarchar(buf, at, script::behind(p, 1)),
+            next,
+        },
+        ColumnValue::NVarCharMax => put_chunked(buf, at, s, next),
+        ColumnValue::NVarCharMaxNull => Placed {
+            place: token::put_plp_null(buf, at),
+            next,
+        },
+        ColumnValue::VarCharMax => put_chunked(buf, at, s, next),
+        ColumnValue::VarBinaryMax => put_chunked(buf, at, s, next),
+        ColumnValue::Null => Placed {
+            place: token::put_null(buf, at),
+            next,
+        },
     }
-    let place = put_plain(buf, at, p, value);
-    Placed { place, next }
 }
 
 // What a record behind the first set's emits; rows are those of the set so far.

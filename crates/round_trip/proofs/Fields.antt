@@ -8,15 +8,16 @@ use native.Mathlib.Omega.{arith}
 use lib.Dec.{eqb, leb}
 use lib.ListN.{length, take, drop, length-drop}
 use lib.Seq.{length-take-le}
-use borrow.Author.Tests.{eqb-true, eqb-false, eq-eqb, le-leb, leb-true}
+use borrow.Author.Tests.{eqb-true, eqb-false, eq-eqb, leb-true}
 use Rattle.wire.specs.Le.{leAt}
 use Rattle.text.specs.Units.{unitsOf}
 use Rattle.text.specs.Surrogates.{surrogates, paired, wellFormed, hasPair}
 use Rattle.token.specs.Types.{dataTypeOf, typeCode, typeLength, collationSize}
-use Rattle.token.specs.Tokens.{unitCount}
+use Rattle.token.specs.Tokens.{integer, long, unitCount}
+use Rattle.token.specs.Values.{columnValueOf}
 use Rattle.script.specs.Shape.{even, columnShaped, numberWidth, message, server, procedure, textsOf}
 use Rattle.script.specs.Verdict.{allWellFormed}
-use Rattle.result.specs.Emission.{infoToken, cellOf}
+use Rattle.result.specs.Emission.{infoToken, valueCell, cellOf}
 use Rattle.result.specs.Refusal.{longName, anyEmpty, cellFault, tokenFault}
 use Rattle.fit.proofs.Inverts.{either, Suits, number, text, nvarcharMax, noMax, varcharMax, varbinaryMax, noNumber}
 use Rattle.reader.specs.WellFormed.{ColumnType, ColumnOk, ChunksOk, CellOk, MessageOk}
@@ -89,6 +90,14 @@ max-types t l m =
     (λ h1. either (eqb t 7) (λ h. rw (eqb-true t 7 h) refl)
     (λ h2. let e : t ≡ 8 = omega (arith, eqb-false t 6 h1, eqb-false t 7 h2) in rw e refl))
 
+number-cell : (x : List ℕ) (cs : List (List ℕ)) (v : ℕ) → 1 ≤ v → v ≤ 4 → valueCell (columnValueOf v) x cs ≡ integer (numberWidth v) (leAt (numberWidth v) x)
+unfolding columnValueOf numberWidth
+number-cell x cs v l m =
+    either (eqb v 1) (λ h. rw (eqb-true v 1 h) refl)
+    (λ h1. either (eqb v 2) (λ h. rw (eqb-true v 2 h) refl)
+    (λ h2. either (eqb v 3) (λ h. rw (eqb-true v 3 h) refl)
+    (λ h3. let e : v ≡ 4 = omega (arith, eqb-false v 1 h1, eqb-false v 2 h2, eqb-false v 3 h3) in rw e refl)))
+
 chunks-ok : (units : Bool) (cs : List (List ℕ)) → anyEmpty cs ≡ false → (units ≡ true → Whole cs) → ChunksOk units cs
 chunks-ok units [] e w = tt
 chunks-ok units (c ∷ cs) e w =
@@ -106,25 +115,25 @@ module _ (t : ℕ) (p : List ℕ) (cs : List (List ℕ)) (bytes : Bytes p) (text
   unfolding cellOf
   a-number l m e =
       let i = integers t (omega arith) (omega arith) in
-      rw (le-leb 1 (leAt 1 p) l, le-leb (leAt 1 p) 4 m)
+      rw (number-cell (drop 1 p) cs (leAt 1 p) l m)
       (i .0, i .1 ∙ ap numberWidth e, in-range (numberWidth (leAt 1 p)) (drop 1 p) (bytes-drop 1 p bytes))
 
   a-text : leAt 1 p ≡ 5 → t ≡ 5 → length (drop 1 p) ≤ 8000 → CellOk (columnType t) (cellOf p cs)
-  unfolding cellOf dataTypeOf textsOf
+  unfolding cellOf columnValueOf dataTypeOf textsOf
   a-text e f l =
       let w : wellFormed (drop 1 p) ≡ true = one-text (drop 1 p) (rw e at texts) in
       rw (e, f) (refl, omega arith, l, eq-eqb (length (drop 1 p) % 2) 0 (even-text (drop 1 p) w))
 
-  no-empty : (v : ℕ) → leAt 1 p ≡ v → (eqb v 6 || eqb v 8 || eqb v 9) ≡ true → (leb 1 v && leb v 4) ≡ false → eqb v 5 ≡ false → anyEmpty cs ≡ false
+  no-empty : (v : ℕ) → leAt 1 p ≡ v → valueCell (columnValueOf v) (drop 1 p) cs ≡ long cs → anyEmpty cs ≡ false
   unfolding cellOf
-  no-empty v e h g f = no-test (anyEmpty cs) 14 (rw (e, g, f, h) at sound)
+  no-empty v e g = no-test (anyEmpty cs) 14 (rw (e, g) at sound)
 
   pub cell-ok : Suits t p → CellOk (columnType t) (cellOf p cs)
-  unfolding cellOf dataTypeOf
+  unfolding cellOf columnValueOf dataTypeOf
   cell-ok (number l m e) = a-number l m e
   cell-ok (text e f l) = a-text e f l
-  cell-ok (nvarcharMax e f) = let n = no-empty 6 e refl refl refl in rw (e, f) (refl, chunks-ok true cs n (λ h. units e))
+  cell-ok (nvarcharMax e f) = let n = no-empty 6 e refl in rw (e, f) (refl, chunks-ok true cs n (λ h. units e))
   cell-ok (noMax e l m) = let x = max-types t l m in rw e x
-  cell-ok (varcharMax e f) = let n = no-empty 8 e refl refl refl in rw (e, f) (refl, chunks-ok false cs n (λ h. absurd (false≢true h)))
-  cell-ok (varbinaryMax e f) = let n = no-empty 9 e refl refl refl in rw (e, f) (refl, chunks-ok false cs n (λ h. absurd (false≢true h)))
+  cell-ok (varcharMax e f) = let n = no-empty 8 e refl in rw (e, f) (refl, chunks-ok false cs n (λ h. absurd (false≢true h)))
+  cell-ok (varbinaryMax e f) = let n = no-empty 9 e refl in rw (e, f) (refl, chunks-ok false cs n (λ h. absurd (false≢true h)))
   cell-ok (noNumber e l m) = let x = integers t l m in rw e (x .0)

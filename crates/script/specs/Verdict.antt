@@ -2,7 +2,7 @@
 -- (document 01, 'Who causes which refusal'). Rests on Records, Order, Shape and text.
 use Prim.Native.Nat.{ℕ}
 use mathlib.Core.List.{List, [], _∷_}
-use mathlib.Core.Bool.{Bool, true, false, cond, _&&_}
+use mathlib.Core.Bool.{Bool, true, cond, _&&_}
 use lib.Dec.{eqb}
 use Rattle.text.specs.Surrogates.{wellFormed}
 use Rattle.script.specs.declared.Stage.{Stage}

@@ -1,5 +1,5 @@
 -- Laws of tokens' fields: a token before others, and a number written by its low bytes. Assumes nothing.
-use mathlib.Core.Path.{_≡_, refl, sym, ap, _∙_}
+use mathlib.Core.Path.{_≡_, refl, ap, _∙_}
 use mathlib.Core.List.{List, [], _∷_, _++_}
 use Prim.Native.Nat.{ℕ, _%_, _^_}
 use lib.ListN.{length}
@@ -9,7 +9,7 @@ use Rattle.wire.specs.Fields.{Field, word, raw, flat}
 use Rattle.wire.proofs.Over.{wrote-as}
 use Rattle.wire.proofs.Le.{le-mod}
 use Rattle.wire.proofs.Fields.{flat-cat}
-use Rattle.token.specs.Tokens.{Token, metadata, column, row, cell, done, message, Sent, integer, noInteger, bounded, long, noLong, putChunks, putCell, put, bytesOf, joined, messageHead, typeFields}
+use Rattle.token.specs.Tokens.{Token, metadata, column, row, cell, done, message, Sent, integer, noInteger, bounded, long, noLong, putChunks, put, bytesOf, joined, messageHead, typeFields}
 use Rattle.token.specs.Types.{lengthWidth}
 use borrow.Author.Tests.{ne-eqb}
 

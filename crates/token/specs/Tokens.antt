@@ -8,7 +8,7 @@ use lib.ListN.{length}
 use lib.Dec.{eqb, ltb}
 use Rattle.wire.specs.Fields.{Field, word, raw, flat}
 use Rattle.text.specs.Surrogates.{characters}
-use Rattle.token.specs.Types.{lengthWidth, collationSize}
+use Rattle.token.specs.Types.{lengthWidth}
 
 -- a token whose cells are of the type C: COLMETADATA and each of its columns, ROW and each of its cells, DONE, and
 -- ERROR or INFO by its first byte; texts are bytes

@@ -1,6 +1,6 @@
 -- The column types (MS-TDS 2.2.5.4, 2.2.5.5): the code and the length that the Rust writes for each. Rests on nothing.
 use Prim.Native.Nat.{ℕ}
-use mathlib.Core.Bool.{Bool, true, false, cond, _||_}
+use mathlib.Core.Bool.{cond, _||_}
 use lib.Dec.{eqb}
 use Rattle.token.specs.declared.SqlDataType.{SqlDataType}
 use Rattle.token.specs.declared.SqlDataType.the-variants.{TinyInt, SmallInt, Int, BigInt, NVarChar, NVarCharMax, VarCharMax, VarBinaryMax}

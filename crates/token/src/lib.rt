@@ -1,13 +1,13 @@
 // The tokens of a reply (MS-TDS 2.2.7): their codes, and the writer of each. A writer puts its token's bytes at a place of
 // a lent buffer and answers the place behind them; what lies past the buffer's end is not written.
 ghost use mathlib.Core.Path.{_≡_};
-ghost use mathlib.Core.List.{List, [], _∷_};
+ghost use mathlib.Core.List.{[], _∷_};
 ghost use Prim.Native.Nat.{_%_};
 ghost use lib.ListN.{length};
 ghost use Rattle.wire.specs.Fields.{flat, word, raw};
 ghost use Rattle.wire.specs.Over.{overwrite, PlaceBehind};
 ghost use Rattle.token.specs.Types.{dataTypeOf, typeCode, typeLength, lengthWidth, collationSize};
-ghost use Rattle.token.specs.Values.{columnValueOf, valueType};
+ghost use Rattle.token.specs.Values.{columnValueOf};
 ghost use Rattle.token.specs.Tokens.{metadata, column, row, cell, done, message, integer, noInteger, bounded, noLong, bytesOf, usVarchar, bVarchar, messageHead, messageLength, typeFields};
 
 // The codes of tokens, as MS-TDS numbers them.
@@ -134,24 +134,6 @@ pub fn column_value_of(b: u8) -> ColumnValue
         8 => ColumnValue::VarCharMax,
         9 => ColumnValue::VarBinaryMax,
         _ => ColumnValue::Null,
-    }
-}
-
-// The data type of a value; a null's is Int.
-pub fn data_type(value: ColumnValue) -> SqlDataType
-    ensures { λ r. ⌜ r ≡ valueType value ⌝ }
-{
-    match value {
-        ColumnValue::TinyInt => SqlDataType::TinyInt,
-        ColumnValue::SmallInt => SqlDataType::SmallInt,
-        ColumnValue::Int => SqlDataType::Int,
-        ColumnValue::BigInt => SqlDataType::BigInt,
-        ColumnValue::NVarChar => SqlDataType::NVarChar,
-        ColumnValue::NVarCharMax => SqlDataType::NVarCharMax,
-        ColumnValue::NVarCharMaxNull => SqlDataType::NVarCharMax,
-        ColumnValue::VarCharMax => SqlDataType::VarCharMax,
-        ColumnValue::VarBinaryMax => SqlDataType::VarBinaryMax,
-        ColumnValue::Null => SqlDataType::Int,
     }
 }
 

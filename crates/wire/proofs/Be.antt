@@ -1,15 +1,15 @@
 -- The laws of `beAt` and `be`, at any width, from those of `leAt` and `le`: the upper part comes first.
 -- Assumes nothing.
-use mathlib.Core.Path.{_≡_, refl, sym, ap, ap₂, _∙_}
+use mathlib.Core.Path.{_≡_, refl, sym, ap, _∙_}
 use mathlib.Core.List.{List, [], _∷_, _++_, reverse, reverse-append}
-use Prim.Native.Nat.{ℕ, zero, suc, _+_, _*_, _/_, _%_, _^_, _≤_, _<_}
+use Prim.Native.Nat.{ℕ, zero, suc, _+_, _*_, _/_, _%_, _^_, _≤_}
 use native.Mathlib.Nat.{zero-add, suc-add, add-comm, zero-mul}
 use native.Mathlib.Omega.{arith}
-use lib.ListN.{length, drop, getD, drop-of-length-le, length-reverse}
-use lib.Seq.{drop-drop, drop-cons, drop-nil, drop-at}
+use lib.ListN.{length, drop, drop-of-length-le, length-reverse}
+use lib.Seq.{drop-drop, drop-nil, drop-at}
 use Rattle.wire.specs.Le.{leAt, le}
 use Rattle.wire.specs.Be.{first, beAt, be}
-use Rattle.wire.proofs.Le.{le-cat, le-split, length-le, le-nil}
+use Rattle.wire.proofs.Le.{le-cat, le-split, length-le}
 
 length-first : (k : ℕ) (l : List ℕ) → length (first k l) ≡ k
 unfolding first
@@ -68,7 +68,3 @@ be-split j k v = rw (add-comm j k, le-split k j v, reverse-append)
 pub length-be : (k v : ℕ) → length (be k v) ≡ k
 unfolding be
 length-be k v = length-reverse (le k v) ∙ length-le k v
-
-pub be-is-le : (v : ℕ) → be 1 v ≡ le 1 v
-unfolding be le
-be-is-le v = refl

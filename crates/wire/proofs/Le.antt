@@ -1,6 +1,6 @@
 -- The laws of `leAt` and `le`, at any width: a number of j + k bytes is one of j bytes and one of k.
 -- Assumes nothing.
-use mathlib.Core.Path.{_≡_, refl, sym, ap, ap₂, _∙_}
+use mathlib.Core.Path.{_≡_, refl, sym, ap, _∙_}
 use mathlib.Core.List.{List, [], _∷_, _++_, append-nil}
 use Prim.Native.Nat.{ℕ, zero, suc, _+_, _*_, _/_, _%_, _^_, _≤_, _<_}
 use native.Mathlib.Nat.{zero-add, suc-add, zero-mul, add-mul, mul-assoc, add-assoc, pow-suc, one-le-pow, div-one, div-div-eq-div-mul, mul-comm, mod-lt, zero-lt-suc, mul-one, add-zero, mod-one, mod-eq-of-lt}

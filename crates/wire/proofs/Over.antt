@@ -1,14 +1,14 @@
 -- The laws of `overwrite` and `Wrote`. Assumes nothing.
-use mathlib.Core.Path.{_≡_, refl, sym, ap, ap₂, _∙_}
-use mathlib.Core.List.{List, [], _∷_, _++_, append-assoc}
-use Prim.Native.Nat.{ℕ, zero, suc, _+_, _-_, _*_, _/_, _%_, _^_, _≤_, _<_, min}
-use native.Mathlib.Nat.{suc-add, add-suc, add-zero, lt-of-not-le, le-of-lt}
+use mathlib.Core.Path.{_≡_, refl, sym, ap, _∙_}
+use mathlib.Core.List.{List, [], _∷_, _++_}
+use Prim.Native.Nat.{ℕ, suc, _+_, _-_, _≤_, _<_, min}
+use native.Mathlib.Nat.{suc-add, add-suc, add-zero, lt-of-not-le}
 use native.Mathlib.Decide.{decLe}
 use native.Mathlib.Omega.{arith}
 use native.Mathlib.Numerals.{add-one}
 use lib.ListN.{length, take, drop, set, getD, length-set, length-append, take-append-drop}
 use lib.Seq.{sets, sets-eq, set-out, take-suc, take-all, length-take-le}
-use Rattle.wire.specs.Over.{overwrite, PlaceBehind, Wrote}
+use Rattle.wire.specs.Over.{overwrite, Wrote}
 
 pub length-over : (xs l : List ℕ) (at : ℕ) → length (overwrite l at xs) ≡ length l
 unfolding overwrite
