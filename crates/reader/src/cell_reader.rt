@@ -96,9 +96,13 @@ fn is_code(code: u8) -> bool
 pub(crate) fn is_type(code: u8, limit: u16) -> bool
     ensures { λ r. ⌜ r ≡ isType code limit ⌝ }
 {
-    ((code == INTN) & ((limit == 1) | (limit == 2) | (limit == 4) | (limit == 8)))
-        | ((code == NVARCHAR) & (((1 <= limit) & (limit <= 8000)) | (limit == MAX)))
-        | (((code == BIGVARCHAR) | (code == BIGVARBINARY)) & (limit == MAX))
+    match code {
+        INTN => (limit == 1) | (limit == 2) | (limit == 4) | (limit == 8),
+        NVARCHAR => ((1 <= limit) & (limit <= 8000)) | (limit == MAX),
+        BIGVARCHAR => limit == MAX,
+        BIGVARBINARY => limit == MAX,
+        _ => false,
+    }
 }
 
 // In how many bytes a type's length stands, and how many bytes of collation follow it.
