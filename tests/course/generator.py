@@ -4,8 +4,9 @@ Rests on nothing of tools/script.py, which the scripts are for.
 """
 import struct
 
-LETTERS = "abcXYZ 019_-\"\\#*/'\n\r\t\0\x7f\x85\xa0é€Ωж中あ\u200b\u2028\ufeff\uffff\ue000😀𝄞\U000e0001\U0010ffff"
 NAMES = "abcXYZ 019_-\"\\#é中"
+# Besides, what does not print, ends lines elsewhere, or takes two units.
+LETTERS = NAMES + "*/'\n\r\t\0\x7F\x85\xA0€Ωж\u200B\u2028\uFEFF\uFFFF\uE000😀𝄞\U000E0001\U0010FFFF"
 INTEGERS = {1: 1, 2: 2, 3: 4, 4: 8}
 LATIN = bytes.fromhex("0904D00034")
 
@@ -90,9 +91,10 @@ def accepted_records(source):
 def stranger(source):
     """A record of any kind, well-shaped or not."""
     payload = source.choice((b"", source.randbytes(source.randint(0, 20))))
-    records = [record(source.choice((0, 10, 0x0101, source.getrandbits(16))), payload), record(source.randint(1, 9), payload)]
-    records += [info(source, source.choice((3, 9))), error(source, source.choice((7, 8))), column(source, source.randint(0, 9))]
-    return source.choice(records + cell(source, source.randint(1, 10)) + [record(6, payload), record(6), record(1), record(4)])
+    unknown = source.choice((0, 10, 0x0101, source.getrandbits(16)))
+    records = [record(kind, payload) for kind in (unknown, source.randint(1, 9), 6)] + [record(kind) for kind in (1, 4, 6)]
+    records += [info(source, source.choice((3, 9))), error(source, source.choice((7, 8)))]
+    return source.choice([*records, column(source, source.randint(0, 9)), *cell(source, source.randint(1, 10))])
 
 
 def spoiled(source, one):

@@ -5,7 +5,8 @@ Reads the lines by itself, and rests on nothing of tools/script.py.
 import json
 import re
 
-ITEM = re.compile(r'"(?:[^"\\]|\\.)*"|[^ ]+')
+TEXT = re.compile(r'"(?:[^"\\]|\\.)*"')
+ITEM = re.compile(TEXT.pattern + "|[^ ]+")
 NONE, CUT, KIND_WRONG, SHAPE_WRONG, TEXT_WRONG = 0, 11, 12, 13, 14
 KINDS = ("set", "column", "info", "row", "cell", "chunk", "leading error", "terminal error", "trailing info")
 AFTER_INFO = {"set", "info", "row", "trailing info"}
