@@ -80,9 +80,15 @@ class Fault(Exception):
 
 
 def named(item):
-    """An item as a message names it."""
+    """An item as a message names it: not longer than a line, and with what does not print escaped."""
     item = item if len(item) <= MOST_NAMED else item[:MOST_NAMED] + ".."
+    item = "".join(each if each.isprintable() else escaped(each) for each in item)
     return item if item.startswith('"') else f"'{item}'"
+
+
+def escaped(character):
+    units = character.encode("utf-16-le", "surrogatepass")
+    return "".join(f"\\u{unit:04X}" for unit, in struct.iter_unpack("<H", units))
 
 
 def number_of(word, what, low, high):
@@ -106,7 +112,7 @@ def text_of(item):
     rest = ESCAPE.sub("", quoted)
     if "\\" in rest:
         at = rest.index("\\")
-        raise Fault(f"'{rest[at:at + 2]}' starts no escape; escapes are \\\" \\\\ \\/ \\b \\f \\n \\r \\t \\uXXXX")
+        raise Fault(f"{named(rest[at:at + 2])} starts no escape; escapes are \\\" \\\\ \\/ \\b \\f \\n \\r \\t \\uXXXX")
     units = json.loads(quoted, strict=False).encode("utf-16-le", "surrogatepass")
     return units * times_of(times) if end < len(item) else units
 
@@ -315,10 +321,7 @@ def shown_bytes(held):
 def shown_character(character):
     if character in SHORT_ESCAPES:
         return SHORT_ESCAPES[character]
-    if character.isprintable():
-        return character
-    units = character.encode("utf-16-le", "surrogatepass")
-    return "".join(f"\\u{unit:04X}" for unit, in struct.iter_unpack("<H", units))
+    return character if character.isprintable() else escaped(character)
 
 
 def shown_text(units):

@@ -92,7 +92,8 @@ def stranger(source):
     """A record of any kind, well-shaped or not."""
     payload = source.choice((b"", source.randbytes(source.randint(0, 20))))
     unknown = source.choice((0, 10, 0x0101, source.getrandbits(16)))
-    records = [record(kind, payload) for kind in (unknown, source.randint(1, 9), 6)] + [record(kind) for kind in (1, 4, 6)]
+    records = [record(kind, payload) for kind in (unknown, source.randint(1, 9), 6)]
+    records += [record(kind) for kind in (1, 4, 6)]
     records += [info(source, source.choice((3, 9))), error(source, source.choice((7, 8)))]
     return source.choice([*records, column(source, source.randint(0, 9)), *cell(source, source.randint(1, 10))])
 
@@ -138,6 +139,17 @@ def damaged_script(source):
     if source.random() < 0.1 and script:
         script[source.randrange(len(script))] = source.getrandbits(8)
     return bytes(script)
+
+
+def swept_scripts():
+    """Records of every kind, first byte and short length, at each place where a set's records may stand."""
+    starts = [record(1), record(1) + record(4)]
+    starts += [starts[1] + record(5, bytes([value])) for value in (6, 8)]
+    for start in starts:
+        for kind in range(11):
+            for length in (*range(11), 16, 17, 18):
+                for first in range(12) if length else [0]:
+                    yield start + record(kind, bytes([first] + [0] * (length - 1))[:length])
 
 
 def random_script(source):
