@@ -1,5 +1,5 @@
 -- `reader::cell_reader::is_type` meets its contract. Assumes nothing.
-use mathlib.Core.Path.{_≡_, refl}
+use mathlib.Core.Path.{_≡_, refl, _∙_}
 use mathlib.Core.Bool.{Bool, true, false, _||_}
 use borrow.Author.Tests.{ne-eqb}
 use Rattle.reader.specs.Cells.{isType}
@@ -12,7 +12,7 @@ or-none false = refl
 
 returns : tie.Need-returns
 unfolding isType
-returns c = rw (c .match .keys1) (or-none _)
+returns c = rw (c .match .keys1) (or-none _ ∙ or-none _)
 
 returns-2 : tie.Need-returns-2
 unfolding isType
