@@ -15,6 +15,9 @@ WITH_COLLATION = (5, 6, 7)
 # Latin1_General: texts of one byte a character are read by it.
 LATIN = bytes([0x09, 0x04, 0xD0, 0x00, 0x34])
 SELECT = 0x00C1
+DONE_COUNT = 0x0010
+# The database that a client asks for; pymssql takes ASCII alone.
+DATABASE = "station 7"
 LETTERS = "abcXYZ 019_-é€Ωж中あ"
 PAIRS = "😀𝄞"
 
@@ -39,10 +42,18 @@ class Script:
     def put(self, kind, payload=b""):
         self.records.append(record(kind, payload))
 
+    def severity(self, _):
+        """The severity of an 'info' or an 'error': any."""
+        return self.source.getrandbits(8)
+
+    def chunk(self, held, unit):
+        """The length of the next chunk of a value of which this is left."""
+        return unit * self.source.choice((1, 2, 7, len(held)))
+
     def info(self, kind):
         source = self.source
         number, line = source.getrandbits(32), source.getrandbits(32)
-        state, severity = source.getrandbits(8), source.getrandbits(8)
+        state, severity = source.getrandbits(8), self.severity("info")
         texts = [text(source, most, LETTERS + PAIRS) for most in (30, 8, 8)]
         counts = [len(each) // 2 for each in texts]
         self.put(kind, struct.pack("<IBBI3H", number, state, severity, line, *counts) + b"".join(texts))
@@ -50,7 +61,7 @@ class Script:
 
     def error(self, kind, status):
         """Puts an error; answers the tokens that it is where it is sent."""
-        number, severity = self.source.getrandbits(32), self.source.getrandbits(8)
+        number, severity = self.source.getrandbits(32), self.severity("error")
         said = text(self.source, 40, LETTERS + PAIRS)
         self.put(kind, struct.pack("<IB", number, severity) + said)
         return [("error", number, 1, severity, said, b"", b"", 1), ("done", status, SELECT, 0)]
@@ -100,7 +111,7 @@ class Script:
     def chunks(self, held, unit):
         at = 0
         while at < len(held):
-            size = unit * self.source.choice((1, 2, 7, len(held)))
+            size = self.chunk(held[at:], unit)
             self.put(CHUNK, held[at:at + size])
             at += size
 
@@ -141,13 +152,39 @@ class Script:
                 self.alone = sent
 
 
-def random_script(source):
+def random_script(source, kind=Script):
     """A script that fits, and its tokens."""
-    script = Script(source)
+    script = kind(source)
     terminal, sets = source.random() < 0.1, source.choice((1, 1, 2, 4))
     for i in range(sets):
         script.set(i == 0, i == sets - 1, terminal and i == 0)
     return script.bytes(), script.alone or script.tokens
+
+
+def value(code, held):
+    """A cell's value as a client hands it out: texts decoded."""
+    if held is None or code in (0x26, 0xA5):
+        return held
+    return held.decode("cp1252" if code == 0xA7 else "utf-16-le")
+
+
+def sets(tokens):
+    """The sets among tokens: names and codes of the columns, rows of values, and the DONE."""
+    columns = None
+    for token in tokens:
+        if token[0] == "columns":
+            columns, rows = [], []
+        elif token[0] == "column":
+            columns.append((token[6].decode("utf-16-le"), token[3]))
+        elif token[0] == "row":
+            rows.append(tuple(value(code, held) for (_, code), held in zip(columns, token[1:])))
+        elif token[0] == "done" and columns is not None:
+            yield columns, rows, token
+
+
+def believed(done):
+    """The row count of a DONE where its status says that it is valid (MS-TDS 2.2.7.6), else -1, as clients say."""
+    return done[3] if done[1] & DONE_COUNT else -1
 
 
 def long_scripts():
