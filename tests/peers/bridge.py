@@ -1,12 +1,16 @@
 """A TDS server on loopback for the tests: the static library `station` reads all that a client says and writes all that it
 hears. The bridge joins a message's packets and puts a header before bare tokens, no more.
 
-    bridge.py LIBRARY SCRIPTS JOURNAL     prints its port and serves until its standard input ends
+    bridge.py LIBRARY SCRIPTS JOURNAL     prints a port and serves until its standard input ends
+
+A login at that port is routed to a second one, where it is accepted.
 
 LIBRARY is what `shared_object` links; SCRIPTS holds scripts, each behind its length (4 bytes). A batch that begins with
 `script N` is answered with the reply of the Nth script, from 0 on, any other batch, which is a client's setup, with a set
-without columns. JOURNAL gets a line of JSON for each request: what the library read in it. A request that the library
-refuses, or of a type that is not answered here, ends the connection and stands in the journal as refused.
+without columns. Clients believe a row count only where the DONE has status bit 0010, which the Rust does not set: at
+`script N counted` the bridge sets it in the last DONE, the one bit that is not the library's. JOURNAL gets a line of JSON
+for each request: what the library read in it. A request that the library refuses, or of a type that is not answered here,
+ends the connection and stands in the journal as refused.
 """
 import contextlib
 import ctypes
@@ -24,13 +28,15 @@ import threading
 import scripts
 
 ARCHIVE = pathlib.Path(__file__).resolve().parent.parent.parent / "target/staticlib/libstation.a"
+HOST = "127.0.0.1"
 BATCH, ATTENTION, TRANSACTION, LOGIN, PRELOGIN = 0x01, 0x06, 0x0E, 0x10, 0x12
 REPLY, END_OF_MESSAGE = 0x04, 0x01
 HEADER, MOST = 8, 65_535
 NO_PART = 1 << 32
 UTF8_SUPPORT, FEATURE = 0x0A, 0x0013
 SET_WITHOUT_COLUMNS = scripts.record(scripts.SET)
-CHOSEN = re.compile(r"script ([0-9]+)")
+DONE = 13
+CHOSEN = re.compile(r"script ([0-9]+)( counted)?")
 
 
 def shared_object(folder):
@@ -79,6 +85,12 @@ def packet(tokens):
     return struct.pack(">BBHHBB", REPLY, END_OF_MESSAGE, HEADER + len(tokens), 0, 1, 0) + tokens
 
 
+def counted(reply):
+    """A reply whose last DONE, which it ends with, says that its row count is valid."""
+    at = len(reply) - DONE + 1
+    return reply[:at] + bytes([reply[at] | scripts.DONE_COUNT]) + reply[at + 1:]
+
+
 def text(body, start, length):
     return None if start == NO_PART else body[start:start + length].decode("utf-16-le")
 
@@ -96,6 +108,8 @@ class Conversation(socketserver.BaseRequestHandler):
                 said, reply = answers[kind](body)
                 self.server.note(said)
                 self.request.sendall(reply)
+        except (ConnectionResetError, BrokenPipeError):
+            pass  # the client has left
         except (Refused, KeyError, OSError) as error:
             self.server.note({"request": "refused", "why": repr(error)})
 
@@ -114,26 +128,25 @@ class Conversation(socketserver.BaseRequestHandler):
     def received(self, count):
         """So many bytes, or none where the client has left before the first of them."""
         held = b""
-        while len(held) < count:
-            more = self.request.recv(count - len(held))
-            if not more and held:
-                raise ConnectionError("a packet was cut")
-            if not more:
-                break
+        while len(held) < count and (more := self.request.recv(count - len(held))):
             held += more
+        if held and len(held) < count:
+            raise ConnectionError("a packet was cut")
         return held
 
     def prelogin(self, _):
         return {"request": "prelogin"}, self.station.built("prelogin_response")
 
     def login(self, body):
+        """A login is accepted, or where the server is the door, routed to the other port."""
         lent = (ctypes.c_uint8 * MOST)()
         count, said = self.station.numbers("parse_login7", 13, body, lent)
         ids = bytes(lent[:count])
+        entry = {"request": "login", "server": text(body, *said[7:9]), "database": text(body, *said[11:13])}
+        if self.server.onward:
+            return entry, self.station.built("routing_response", HOST.encode("utf-16-le"), self.server.onward)
         done = self.station.built("done_token", 0)
-        tokens = self.station.built("login_ack") + self.features(ids) + done
-        texts = {"server": text(body, *said[7:9]), "database": text(body, *said[11:13])}
-        return {"request": "login", "features": ids.hex(), **texts}, packet(tokens)
+        return entry, packet(self.station.built("login_ack") + self.features(ids) + done)
 
     def features(self, ids):
         """The acknowledgement of UTF-8 collations, which a script's columns may have, where the login asks for it."""
@@ -146,8 +159,9 @@ class Conversation(socketserver.BaseRequestHandler):
         said = text(body, *place)
         chosen = CHOSEN.match(said)
         script = self.server.scripts[int(chosen[1])] if chosen else SET_WITHOUT_COLUMNS
+        reply = self.station.built("query_results", script)
         entry = {"request": "batch", "text": said, "descriptor": held if found else None}
-        return entry, self.station.built("query_results", script)
+        return entry, counted(reply) if chosen and chosen[2] else reply
 
     def transaction(self, body):
         kind = self.station.call("parse_transaction_manager_request", body)
@@ -159,16 +173,17 @@ class Conversation(socketserver.BaseRequestHandler):
 
 
 class Server(socketserver.ThreadingTCPServer):
+    """Listens on a free port. `onward` is the port to which logins are routed, 0 where they are accepted."""
     daemon_threads = True
 
-    def __init__(self, library, held, journal):
-        super().__init__(("127.0.0.1", 0), Conversation)
-        self.station, self.scripts, self.journal, self.lock = Station(library), held, journal, threading.Lock()
+    def __init__(self, station, held, journal, onward):
+        super().__init__((HOST, 0), Conversation)
+        self.station, self.scripts, self.journal, self.onward = station, held, journal, onward
+        self.port = self.server_address[1]
+        threading.Thread(target=self.serve_forever, daemon=True).start()
 
     def note(self, said):
-        with self.lock:
-            self.journal.write(json.dumps(said) + "\n")
-            self.journal.flush()
+        self.journal.write(json.dumps(said) + "\n")
 
 
 def unpacked(held):
@@ -207,11 +222,12 @@ def running(held):
 def main():
     library, stored, journal = sys.argv[1:]
     held = list(unpacked(pathlib.Path(stored).read_bytes()))
-    with open(journal, "w", encoding="ascii") as file, Server(library, held, file) as server:
-        threading.Thread(target=server.serve_forever, daemon=True).start()
-        print(server.server_address[1], flush=True)
-        sys.stdin.buffer.read()
-        os._exit(0)
+    station, file = Station(library), open(journal, "w", encoding="ascii", buffering=1)
+    inner = Server(station, held, file, 0)
+    door = Server(station, held, file, inner.port)
+    print(door.port, flush=True)
+    sys.stdin.buffer.read()
+    os._exit(0)
 
 
 if __name__ == "__main__":

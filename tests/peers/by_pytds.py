@@ -141,19 +141,22 @@ def conversation(port, texts, withdrawn):
 
 
 def heard(cursor, text):
-    """All that pytds tells of one reply: messages, errors and sets."""
-    errors, sets = [], []
+    """All that pytds tells of one reply: messages, the error and sets. Behind a leading error it goes on."""
+    error, sets = [], []
     try:
         cursor.execute(text)
-    except tds_base.Error as error:
-        errors.append(("error", error.number % 2**32, error.severity, error.state, error.text))
-    more = cursor.description is not None or cursor.nextset()
-    while more:
-        sets.append(("set", *(name for name, *_ in cursor.description)))
-        sets.extend(("row", *row) for row in cursor.fetchall())
-        sets.append(("count", cursor.rowcount))
-        more = cursor.nextset()
-    return [told_message(said) for _, said in cursor.messages] + errors + sets
+    except tds_base.DatabaseError as raised:
+        error = [("error", raised.number % 2**32)]
+    try:
+        more = cursor.description is not None or cursor.nextset()
+        while more:
+            sets.append(("set", *(name for name, *_ in cursor.description)))
+            sets.extend(("row", *row) for row in cursor.fetchall())
+            sets.append(("count", cursor.rowcount))
+            more = cursor.nextset()
+    except Exception as raised:  # whatever else pytds raises is its answer
+        sets.append(("raised", repr(raised)))
+    return [told_message(said) for _, said in cursor.messages] + error + sets
 
 
 def told_message(said):
@@ -168,7 +171,7 @@ def conversation_expected(tokens):
             yield "message", *token[1:4], *(held.decode("utf-16-le") for held in token[4:7]), token[7]
     for token in tokens:
         if token[0] == "error":
-            yield "error", token[1], token[3], token[2], token[4].decode("utf-16-le")
+            yield "error", token[1]
     for columns, rows, done in scripts.sets(tokens):
         yield "set", *(name for name, _ in columns)
         yield from (("row", *row) for row in rows)

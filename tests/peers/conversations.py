@@ -1,6 +1,7 @@
-"""Whole conversations of three clients with the bridge: prelogin, login, setup, transactions, batches and attentions.
+"""Whole conversations of three clients with the bridge: prelogin, a login that is routed, a login, setup, transactions,
+batches and attentions.
 
-What a client tells of the replies is compared with the scripts, and what the bridge read with what was sent: the login's
+What a client tells of the replies is compared with the scripts, and what the bridge read with what was sent: the logins'
 server and database, each batch's text and transaction descriptor, the transaction requests, and the attention that
 withdraws a batch.
 """
@@ -14,14 +15,15 @@ import scripts
 # `free`: whether a batch may be any text, and be withdrawn. `transactions`: whether the client asks for them.
 Client = collections.namedtuple("Client", "name talk expected server free transactions")
 CLIENTS = (
-    Client("pymssql", by_freetds.pymssql, by_freetds.pymssql_expected, "127.0.0.1", True, False),
+    Client("pymssql", by_freetds.pymssql, by_freetds.pymssql_expected, bridge.HOST, True, False),
     Client("tsql", by_freetds.tsql, by_freetds.tsql_expected, by_freetds.SERVER, False, False),
-    Client("pytds", by_pytds.conversation, by_pytds.conversation_expected, "127.0.0.1", True, True),
+    Client("pytds", by_pytds.conversation, by_pytds.conversation_expected, bridge.HOST, True, True),
 )
 # What trimming removes (document 01, 'Requests and logins'); of a range both ends.
 WHITE = "\t\n\v\f\r \x85\xA0\u1680\u2000\u200A\u2028\u2029\u202F\u205F\u3000"
 # What follows the script's number in a batch; the last makes a request of two packets.
-REMARKS = ("", "", " -- é中😀", " -- " + "word " * 500 + ".")
+COUNTED = " counted"
+REMARKS = ("", COUNTED, COUNTED + " -- é中😀", " -- " + "word " * 500 + ".")
 WITHDRAWN = 10
 OUTSIDE, INSIDE = [0, 1], [1, 1]
 BEGIN, COMMIT, ROLLBACK = 5, 7, 8
@@ -47,18 +49,27 @@ def first_set(tokens):
 
 
 def hold(client, source, made):
-    """A client's conversation: what it told of each script, the requests as they were sent, and as the bridge read them."""
+    """A client's conversation. For each script what the client should tell and what it told, and the same of the requests:
+    how they were sent, and how the bridge read them."""
     sent, withdrawn = batches(client, source, made)
     with bridge.running([script for script, _ in made]) as running:
         told = client.talk(running.port, sent, withdrawn)
         journal = running.journal()
-    return told, list(requests(client, sent, withdrawn)), list(read(journal, withdrawn))
+    expected = [list(client.expected(counted(tokens) if COUNTED in text else tokens)) for text, (_, tokens) in zip(sent, made)]
+    return zip(expected, told, strict=True), (list(requests(client, sent, withdrawn)), list(read(journal, withdrawn)))
+
+
+def counted(tokens):
+    """Tokens whose last DONE says that its row count is valid."""
+    word, status, *rest = tokens[-1]
+    return [*tokens[:-1], (word, status | scripts.DONE_COUNT, *rest)]
 
 
 def requests(client, sent, withdrawn):
     """The requests of a conversation, but the client's own setup."""
-    yield "prelogin",
-    yield "login", client.server, scripts.DATABASE
+    for server in (client.server, bridge.HOST):
+        yield "prelogin",
+        yield "login", server, scripts.DATABASE
     for i, text in enumerate(sent):
         if client.transactions and i == len(sent) // 2:
             yield "transaction", COMMIT
@@ -74,7 +85,7 @@ def requests(client, sent, withdrawn):
 
 
 def read(journal, withdrawn):
-    """The same as the bridge read them. A client may send attentions of its own, where it hears of an error."""
+    """The same as the bridge read them. Attentions that a client sends by itself, where it hears of an error, are left out."""
     trimmed, last = {text.strip(WHITE) for text in withdrawn}, None
     for entry in journal:
         kind = entry["request"]
@@ -82,5 +93,7 @@ def read(journal, withdrawn):
             last = entry["text"]
             if last.startswith("script "):
                 yield kind, last, entry["descriptor"]
+        elif kind == "login":
+            yield kind, entry["server"].partition(",")[0], entry["database"]  # FreeTDS names the port of a route, too
         elif kind != "attention" or last in trimmed:
-            yield kind, *(entry[field] for field in ("server", "database", "type", "why") if field in entry)
+            yield kind, *(entry[field] for field in ("type", "why") if field in entry)
