@@ -1,16 +1,15 @@
-"""A TDS server on loopback for the tests: the static library `station` reads all that a client says and writes all that it
-hears. The bridge joins a message's packets and puts a header before bare tokens, no more.
+"""A TDS server on loopback for the tests: the static library `station` reads all that a client says and writes all
+that it hears. The bridge joins a message's packets and puts a header before bare tokens.
 
     bridge.py LIBRARY SCRIPTS JOURNAL     prints a port and serves until its standard input ends
 
-A login at that port is routed to a second one, where it is accepted.
-
-LIBRARY is what `shared_object` links; SCRIPTS holds scripts, each behind its length (4 bytes). A batch that begins with
-`script N` is answered with the reply of the Nth script, from 0 on, any other batch, which is a client's setup, with a set
-without columns. Clients believe a row count only where the DONE has status bit 0010, which the Rust does not set: at
-`script N counted` the bridge sets it in the last DONE, the one bit that is not the library's. JOURNAL gets a line of JSON
-for each request: what the library read in it. A request that the library refuses, or of a type that is not answered here,
-ends the connection and stands in the journal as refused.
+A login at that port is routed to a second port, where it is accepted. LIBRARY is what `shared_object` links;
+SCRIPTS holds scripts, each behind its length (4 bytes). A batch that begins with `script N` is answered with the
+reply of the Nth script, from 0 on, any other batch, which is a client's setup, with a set without columns. Clients
+believe a row count only where the DONE has status bit 0010, which the Rust does not set: at `script N counted` the
+bridge sets it in the last DONE, the one bit that is not the library's. JOURNAL gets a line of JSON for each
+request, with what the library read in it. A request that the library refuses, or of a type that is not answered
+here, ends the connection and stands in the journal as refused.
 """
 import contextlib
 import ctypes
@@ -39,12 +38,10 @@ DONE = 13
 CHOSEN = re.compile(r"script ([0-9]+)( counted)?")
 
 
-def shared_object(folder):
-    """The static library as a shared object, for calls from Python."""
-    linked = pathlib.Path(folder) / "libstation.so"
+def shared_object(path):
+    """Links the static library as a shared object, for calls from Python."""
     whole = ["-Wl,--whole-archive", ARCHIVE, "-Wl,--no-whole-archive"]
-    subprocess.run(["gcc", "-shared", "-o", linked, *whole], check=True, timeout=60)
-    return linked
+    subprocess.run(["gcc", "-shared", "-o", path, *whole], check=True, timeout=60)
 
 
 class Refused(Exception):
@@ -209,7 +206,8 @@ class Running:
 def running(held):
     """A bridge that answers with these scripts; its process ends with the block."""
     with tempfile.TemporaryDirectory() as folder:
-        library, stored, journal = shared_object(folder), pathlib.Path(folder) / "scripts", pathlib.Path(folder) / "journal"
+        library, stored, journal = (pathlib.Path(folder) / name for name in ("libstation.so", "scripts", "journal"))
+        shared_object(library)
         stored.write_bytes(b"".join(struct.pack("<I", len(each)) + each for each in held))
         command = [sys.executable, "-B", __file__, library, stored, journal]
         with subprocess.Popen(command, stdin=subprocess.PIPE, stdout=subprocess.PIPE) as process:

@@ -1,17 +1,20 @@
-"""Conversations of FreeTDS with the bridge: of its program tsql (Debian's freetds-bin), and of pymssql (python3-pymssql),
-which rests on its library. What each tells of a reply, and what it should tell by the script's tokens.
+"""Conversations of FreeTDS with the bridge: of its program tsql (Debian's freetds-bin) and of pymssql (Debian's
+python3-pymssql), which rests on its library. What each tells of a reply, and what it should tell by the script's
+tokens.
 
-tsql tells all tokens in their order, each set with its names and values and each message with all its fields. It cannot
-show types, a line number from 2^31 on, nor a DONE's row count: the rows that it reports are those that it counted, and of
-none it says nothing.
+tsql tells all tokens in their order, each set with its names and values, each message with all its fields. It
+cannot show types, a line number from 2^31 on, nor a DONE's row count: it reports the rows that it counted, and
+nothing where there are none.
 
-pymssql tells names, kinds of types, values, and messages without their numbers; the number of an error is the exception's.
-It shows no set without columns. At an error it withdraws the batch by an attention, so that of the sets behind a leading
-error nothing is shown. Its `rowcount` is that of the DONE where the status has bit 0010 (MS-TDS 2.2.7.6), else -1.
+pymssql tells names, kinds of types, values, and messages without their numbers; an error's number is the
+exception's. It shows no set without columns. At an error it withdraws the batch by an attention, so that nothing is
+shown of the sets behind a leading error. Its `rowcount` is that of the DONE where the status has bit 0010 (MS-TDS
+2.2.7.6), else -1.
 
-Two things are not in the scripts for FreeTDS. A message of a severity over 10 is an error to it, whatever its token, so
-infos have up to 10 and errors over 10. And FreeTDS 1.3.17 ends the connection at a chunk that is the first half of a
-surrogate pair alone (chunks `3DD8` and `00DE`), which MS-TDS allows: no chunk is such a half.
+Two things are not in the scripts for these conversations. FreeTDS takes a message of a severity over 10 for an
+error, whatever its token, so infos have up to 10 and errors over 10. And FreeTDS 1.3.17 ends the connection at a
+chunk that is nothing but the first half of a surrogate pair (chunks `3DD8` and `00DE`), which MS-TDS allows, so
+there is no such chunk.
 """
 import os
 import pathlib
@@ -54,13 +57,14 @@ def configure(folder, port):
 
 
 def tsql(port, texts, _):
-    """For each batch the lines that tsql prints; its two outputs are one, unbuffered, so that messages stand in their place."""
+    """For each batch the lines that tsql prints. Its outputs are one and unbuffered: messages stand in their place."""
     with tempfile.TemporaryDirectory() as folder:
         configure(folder, port)
         command = ["stdbuf", "-o0", "tsql", "-S", SERVER, "-U", "desk", "-P", "secret", "-D", scripts.DATABASE]
         said = "".join(f"{text}\ngo\n" for text in texts) + "exit\n"
-        done = subprocess.run(command, input=said.encode(), stdout=subprocess.PIPE, stderr=subprocess.STDOUT, check=True,
-                              timeout=PATIENCE, env={**os.environ, "LC_ALL": "C.UTF-8"})
+        environment = {**os.environ, "LC_ALL": "C.UTF-8"}
+        done = subprocess.run(command, input=said.encode(), stdout=subprocess.PIPE, stderr=subprocess.STDOUT,
+                              check=True, timeout=PATIENCE, env=environment)
     told = done.stdout.decode().removesuffix("1> ").split(PROMPTS)[1:]
     return [each.split("\n")[:-1] for each in told]
 
@@ -99,13 +103,14 @@ def message(number, state, severity, *rest):
 
 
 def pymssql(port, texts, withdrawn):
-    """For each batch what pymssql tells. A batch that is among `withdrawn` is sent twice, and withdrawn after a row at first."""
+    """For each batch what pymssql tells. One that is among `withdrawn` is sent before, and withdrawn after a row."""
     with tempfile.TemporaryDirectory() as folder:
         configure(folder, port)
         import pymssql as client
         client._mssql.min_error_severity = 11  # pymssql's own is 6, at which some infos are raised
-        connection = client.connect(server="127.0.0.1", port=str(port), user="desk", password="secret", database=scripts.DATABASE,
-                                    charset="UTF-8", autocommit=True, timeout=PATIENCE, login_timeout=PATIENCE)
+        connection = client.connect(server="127.0.0.1", port=str(port), user="desk", password="secret",
+                                    database=scripts.DATABASE, charset="UTF-8", autocommit=True, timeout=PATIENCE,
+                                    login_timeout=PATIENCE)
         told = []
         for text in texts:
             if text in withdrawn:

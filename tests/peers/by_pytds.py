@@ -1,9 +1,9 @@
-"""Replies read by pytds (Debian's python3-tds): its session reads the packet from a transport that holds its bytes, and a
-whole conversation with the bridge, in transactions.
+"""Replies read by pytds (Debian's python3-tds): packets, which its session reads from a transport that holds their
+bytes, and whole conversations with the bridge, in transactions.
 
-In a conversation pytds tells all sets and messages, and of each set the row count where the DONE's status has bit 0010
-(MS-TDS 2.2.7.6), else -1. It holds a packet in a buffer of the size that the login agreed, 4,096 bytes, and fails at a
-longer one; a reply is one packet whatever its length, as in the Rust, so the buffer is made longer here.
+In a conversation pytds tells all sets and messages, and of each set the row count where the DONE's status has bit
+0010 (MS-TDS 2.2.7.6), else -1. It holds a packet in a buffer of the size that the login agreed, 4,096 bytes, and
+fails at a longer one; a reply is one packet whatever its length, as in the Rust, so the buffer is made longer here.
 """
 import re
 import types
@@ -90,7 +90,8 @@ def column(each):
 def length(kind):
     if isinstance(kind, MAX_TYPES):
         return 0xFFFF
-    return int(2 * kind.size) if kind.type == tds_base.XSYBNVARCHAR else kind.size  # pytds counts an NVARCHAR in characters
+    # pytds counts an NVARCHAR in characters
+    return int(2 * kind.size) if kind.type == tds_base.XSYBNVARCHAR else kind.size
 
 
 def message(said):
@@ -119,9 +120,9 @@ def expected(script_tokens):
 
 
 def conversation(port, texts, withdrawn):
-    """For each batch what pytds tells. A batch that is among `withdrawn` is sent twice, and withdrawn after a row at first.
+    """For each batch what pytds tells. One that is among `withdrawn` is sent before, and withdrawn after a row.
 
-    The first half is a transaction that is committed, the second one that is rolled back."""
+    The first half is a transaction that is committed, the second half one that is rolled back."""
     connection = pytds.connect("127.0.0.1", scripts.DATABASE, "desk", "secret", port=port, timeout=PATIENCE,
                                login_timeout=PATIENCE, autocommit=False)
     connection._conn.main_session._reader.set_block_size(BUFFER)

@@ -1,9 +1,9 @@
-"""Whole conversations of three clients with the bridge: prelogin, a login that is routed, a login, setup, transactions,
-batches and attentions.
+"""Whole conversations of three clients with the bridge: prelogin, a login that is routed, a login, setup,
+transactions, batches and attentions.
 
-What a client tells of the replies is compared with the scripts, and what the bridge read with what was sent: the logins'
-server and database, each batch's text and transaction descriptor, the transaction requests, and the attention that
-withdraws a batch.
+What a client tells of the replies is compared with the scripts, and what the bridge read with what was sent: server
+and database of the logins, text and transaction descriptor of each batch, the transaction requests, and the
+attention that withdraws a batch.
 """
 import collections
 
@@ -13,11 +13,11 @@ import by_pytds
 import scripts
 
 # `free`: whether a batch may be any text, and be withdrawn. `transactions`: whether the client asks for them.
-Client = collections.namedtuple("Client", "name talk expected server free transactions")
+Client = collections.namedtuple("Client", "group name talk expected server free transactions")
 CLIENTS = (
-    Client("pymssql", by_freetds.pymssql, by_freetds.pymssql_expected, bridge.HOST, True, False),
-    Client("tsql", by_freetds.tsql, by_freetds.tsql_expected, by_freetds.SERVER, False, False),
-    Client("pytds", by_pytds.conversation, by_pytds.conversation_expected, bridge.HOST, True, True),
+    Client("freetds", "pymssql", by_freetds.pymssql, by_freetds.pymssql_expected, bridge.HOST, True, False),
+    Client("freetds", "tsql", by_freetds.tsql, by_freetds.tsql_expected, by_freetds.SERVER, False, False),
+    Client("pytds", "pytds", by_pytds.conversation, by_pytds.conversation_expected, bridge.HOST, True, True),
 )
 # What trimming removes (document 01, 'Requests and logins'); of a range both ends.
 WHITE = "\t\n\v\f\r \x85\xA0\u1680\u2000\u200A\u2028\u2029\u202F\u205F\u3000"
@@ -34,33 +34,33 @@ def blanks(source):
 
 
 def batches(client, source, made):
-    """A batch for each script, and those among them that are withdrawn: of replies without an error that begin with a row."""
+    """A batch for each script, and those to withdraw: the first whose reply has rows in its first set and no error."""
     if not client.free:
         return [f"script {number}" for number in range(len(made))], []
     sent = [f"{blanks(source)}script {number}{source.choice(REMARKS)}{blanks(source)}" for number in range(len(made))]
-    rows = [any(token[0] == "row" for token in first_set(tokens)) for _, tokens in made]
-    return sent, [each for each, with_rows in zip(sent, rows) if with_rows][:WITHDRAWN]
+    return sent, [text for text, (_, tokens) in zip(sent, made) if begins_with_rows(tokens)][:WITHDRAWN]
 
 
-def first_set(tokens):
-    """The tokens through the first DONE, where no error is among them."""
-    end = next(i for i, token in enumerate(tokens) if token[0] == "done")
-    return [] if tokens[0][0] == "error" else tokens[:end]
+def begins_with_rows(tokens):
+    words = [token[0] for token in tokens]
+    return "error" not in words and "row" in words[:words.index("done")]
 
 
 def hold(client, source, made):
-    """A client's conversation. For each script what the client should tell and what it told, and the same of the requests:
-    how they were sent, and how the bridge read them."""
+    """A client's conversation: for each script what the client should tell and what it told, and of the requests how
+    they were sent and how the bridge read them."""
     sent, withdrawn = batches(client, source, made)
     with bridge.running([script for script, _ in made]) as running:
         told = client.talk(running.port, sent, withdrawn)
         journal = running.journal()
-    expected = [list(client.expected(counted(tokens) if COUNTED in text else tokens)) for text, (_, tokens) in zip(sent, made)]
+    expected = [list(client.expected(answer(text, tokens))) for text, (_, tokens) in zip(sent, made)]
     return zip(expected, told, strict=True), (list(requests(client, sent, withdrawn)), list(read(journal, withdrawn)))
 
 
-def counted(tokens):
-    """Tokens whose last DONE says that its row count is valid."""
+def answer(text, tokens):
+    """The tokens that answer a batch: the script's, where it asks for it with a last DONE whose row count is valid."""
+    if COUNTED not in text:
+        return tokens
     word, status, *rest = tokens[-1]
     return [*tokens[:-1], (word, status | scripts.DONE_COUNT, *rest)]
 
@@ -85,7 +85,7 @@ def requests(client, sent, withdrawn):
 
 
 def read(journal, withdrawn):
-    """The same as the bridge read them. Attentions that a client sends by itself, where it hears of an error, are left out."""
+    """The same as the bridge read them. Attentions that a client sends by itself, at an error, are left out."""
     trimmed, last = {text.strip(WHITE) for text in withdrawn}, None
     for entry in journal:
         kind = entry["request"]

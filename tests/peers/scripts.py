@@ -1,14 +1,15 @@
 """Scripts that fit, and the tokens that they emit, from document 01 ('The script', 'What a script emits').
 
-A token is a tuple: ('columns', count); ('column', user type, flags, code, length, collation, name); ('error' or 'info', number,
-state, severity, message, server, procedure, line); ('row', values); ('done', status, command, count). Texts, collations and the
-values that are no integers are bytes; a null is None.
+A token is a tuple: ('columns', count); ('column', user type, flags, code, length, collation, name); ('error' or
+'info', number, state, severity, message, server, procedure, line); ('row', values); ('done', status, command,
+count). Texts, collations and the values that are no integers are bytes; a null is None.
 """
 import struct
 
 SET, COLUMN, INFO, ROW, CELL, CHUNK, LEADING, TERMINAL, TRAILING = range(1, 10)
 # Type byte: the code and length that are sent.
-TYPES = {1: (0x26, 1), 2: (0x26, 2), 3: (0x26, 4), 4: (0x26, 8), 5: (0xE7, 8000), 6: (0xE7, 0xFFFF), 7: (0xA7, 0xFFFF), 8: (0xA5, 0xFFFF)}
+TYPES = {1: (0x26, 1), 2: (0x26, 2), 3: (0x26, 4), 4: (0x26, 8),
+         5: (0xE7, 8000), 6: (0xE7, 0xFFFF), 7: (0xA7, 0xFFFF), 8: (0xA5, 0xFFFF)}
 MAX_VALUES = {6: 6, 7: 8, 8: 9}
 MAX_NULL, NULL = 7, 10
 WITH_COLLATION = (5, 6, 7)
@@ -67,7 +68,8 @@ class Script:
         return [("error", number, 1, severity, said, b"", b"", 1), ("done", status, SELECT, 0)]
 
     def column(self, type_byte):
-        collation = LATIN if type_byte == 7 else struct.pack("<IB", self.source.getrandbits(32) & ~0x0C000000, self.source.getrandbits(8))
+        drawn = struct.pack("<IB", self.source.getrandbits(32) & ~0x0C000000, self.source.getrandbits(8))
+        collation = LATIN if type_byte == 7 else drawn
         name = text(self.source, 10)
         self.put(COLUMN, bytes([type_byte]) + collation + name)
         sent = collation if type_byte in WITH_COLLATION else b""
@@ -89,7 +91,8 @@ class Script:
         width = TYPES[type_byte][1]
         half = 1 << (8 * width - 1)
         low, high = (0, 255) if width == 1 else (-half, half - 1)
-        value = self.source.choice((low, high, -1 if low else 128, self.source.randint(low, high), self.source.randint(low, high)))
+        drawn = [self.source.randint(low, high) for _ in range(2)]
+        value = self.source.choice((low, high, -1 if low else 128, *drawn))
         self.put(CELL, bytes([type_byte]) + value.to_bytes(width, "little", signed=width > 1))
         return value
 
@@ -141,7 +144,7 @@ class Script:
             self.tokens.append(("row", *(self.cell(type_byte) for type_byte in types)))
 
     def errors(self, first, terminal, start):
-        """Errors stand behind the columns. Those of the first set are sent: a leading one before the set, a terminal one alone."""
+        """Errors stand behind the columns. The first set's are sent: a leading one before it, a terminal one alone."""
         if self.source.random() < 0.3:
             sent = self.error(LEADING, 0x0003)
             if first:
@@ -192,15 +195,16 @@ def long_scripts():
     name = "n" * 255
     wide = name.encode("utf-16-le")
     text_column = record(COLUMN, b"\5" + LATIN + wide)
-    note = record(INFO, struct.pack("<IBBI3H", 1, 2, 3, 4, 2000, 255, 255) + "m".encode("utf-16-le") * 2000 + wide + wide)
+    said = "m".encode("utf-16-le") * 2000
+    note = record(INFO, struct.pack("<IBBI3H", 1, 2, 3, 4, 2000, 255, 255) + said + wide + wide)
     held = "é中".encode("utf-16-le") * 2000
     script = record(SET) + text_column + note + record(ROW) + record(CELL, b"\5" + held)
-    said = ("info", 1, 2, 3, "m".encode("utf-16-le") * 2000, wide, wide, 4)
-    start = ("columns", 1), ("column", 0, 0, 0xE7, 8000, LATIN, wide), said
+    start = ("columns", 1), ("column", 0, 0, 0xE7, 8000, LATIN, wide), ("info", 1, 2, 3, said, wide, wide, 4)
     yield script, [*start, ("row", held), ("done", 0, SELECT, 1)]
     for type_byte, unit in ((6, b"x\0"), (7, b"x"), (8, b"\xFF")):
         held = unit * 10000
         collation = LATIN if type_byte in WITH_COLLATION else b""
-        script = record(SET) + record(COLUMN, bytes([type_byte]) + LATIN) + record(ROW) + record(CELL, bytes([MAX_VALUES[type_byte]]))
+        script = record(SET) + record(COLUMN, bytes([type_byte]) + LATIN) + record(ROW)
+        script += record(CELL, bytes([MAX_VALUES[type_byte]])) + record(CHUNK, held) + record(CHUNK, unit)
         column = ("column", 0, 0, *TYPES[type_byte], collation, b"")
-        yield script + record(CHUNK, held) + record(CHUNK, unit), [("columns", 1), column, ("row", held + unit), ("done", 0, SELECT, 1)]
+        yield script, [("columns", 1), column, ("row", held + unit), ("done", 0, SELECT, 1)]
