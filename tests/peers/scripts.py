@@ -208,3 +208,14 @@ def long_scripts():
         script += record(CELL, bytes([MAX_VALUES[type_byte]])) + record(CHUNK, held) + record(CHUNK, unit)
         column = ("column", 0, 0, *TYPES[type_byte], collation, b"")
         yield script, [("columns", 1), column, ("row", held + unit), ("done", 0, SELECT, 1)]
+
+
+def longest_scripts():
+    """Scripts whose replies have 65,535 bytes: one of a lone value, and one of as many rows as there can be."""
+    held, rows = b"x" * 65_484, 21_834
+    column = ("column", 0, 0, *TYPES[8], b"", b"")
+    script = record(SET) + record(COLUMN, b"\x08" + LATIN) + record(ROW) + record(CELL, b"\x09") + record(CHUNK, held)
+    yield script, [("columns", 1), column, ("row", held), ("done", 0, SELECT, 1)]
+    column = ("column", 0, 0, *TYPES[1], b"", b"")
+    script = record(SET) + record(COLUMN, b"\x01" + LATIN) + (record(ROW) + record(CELL, b"\x01\x07")) * rows
+    yield script, [("columns", 1), column, *[("row", 7)] * rows, ("done", 0, SELECT, rows)]
