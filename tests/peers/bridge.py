@@ -135,7 +135,7 @@ class Conversation(socketserver.BaseRequestHandler):
         return {"request": "prelogin"}, self.station.built("prelogin_response")
 
     def login(self, body):
-        """A login is accepted, or where the server is the door, routed to the other port."""
+        """A login is accepted, or routed where there is a port to route it to."""
         lent = (ctypes.c_uint8 * MOST)()
         count, said = self.station.numbers("parse_login7", 13, body, lent)
         ids = bytes(lent[:count])

@@ -21,10 +21,12 @@ import pathlib
 import subprocess
 import tempfile
 
+import pymssql as client
+
 import scripts
 
 SERVER = "bridge"
-PATIENCE = 60
+PATIENCE = 120
 CONFIGURATION = """[global]
     tds version = 7.4
     client charset = UTF-8
@@ -71,12 +73,12 @@ def tsql(port, texts, _):
 
 def tsql_expected(tokens):
     """The lines that tsql prints of these tokens."""
-    names, codes, rows = [], [], 0
+    codes, rows = [], 0
     for i, token in enumerate(tokens):
         if token[0] == "columns":
-            held = tokens[i + 1:i + 1 + token[1]]
-            names, codes, rows = [each[6].decode("utf-16-le") for each in held], [each[3] for each in held], 0
-            yield "\t".join(names)
+            columns = tokens[i + 1:i + 1 + token[1]]
+            codes, rows = [column[3] for column in columns], 0
+            yield "\t".join(column[6].decode("utf-16-le") for column in columns)
         elif token[0] == "row":
             rows += 1
             yield "\t".join(shown(code, held) for code, held in zip(codes, token[1:]))
@@ -93,9 +95,9 @@ def shown(code, held):
     return held.hex() if code == 0xA5 else str(scripts.value(code, held))
 
 
-def message(number, state, severity, *rest):
-    said, server, procedure = (each.decode("utf-16-le") for each in rest[:3])
-    number, line = (each - (each >> 31 << 32) for each in (number, rest[3]))
+def message(number, state, severity, said, server, procedure, line):
+    said, server, procedure = (each.decode("utf-16-le") for each in (said, server, procedure))
+    number, line = (each - (each >> 31 << 32) for each in (number, line))  # to FreeTDS both have a sign
     by = f", Procedure {procedure}" if procedure else ""
     at = f" Line {line}" if line > 0 else ""
     yield f"Msg {number} (severity {severity}, state {state}) from {server}{by}{at}:"
@@ -106,7 +108,6 @@ def pymssql(port, texts, withdrawn):
     """For each batch what pymssql tells. One that is among `withdrawn` is sent before, and withdrawn after a row."""
     with tempfile.TemporaryDirectory() as folder:
         configure(folder, port)
-        import pymssql as client
         client._mssql.min_error_severity = 11  # pymssql's own is 6, at which some infos are raised
         connection = client.connect(server="127.0.0.1", port=str(port), user="desk", password="secret",
                                     database=scripts.DATABASE, charset="UTF-8", autocommit=True, timeout=PATIENCE,
@@ -115,7 +116,7 @@ def pymssql(port, texts, withdrawn):
         for text in texts:
             if text in withdrawn:
                 withdraw(connection, text)
-            told.append(heard(client, connection, text))
+            told.append(heard(connection, text))
         connection.close()
     return told
 
@@ -127,7 +128,7 @@ def withdraw(connection, text):
     connection._conn.cancel()
 
 
-def heard(client, connection, text):
+def heard(connection, text):
     """All that pymssql tells of one reply: messages, sets, and the error."""
     messages, sets, cursor = [], [], connection.cursor()
 
@@ -149,6 +150,7 @@ def heard(client, connection, text):
 
 
 def pymssql_expected(tokens):
+    """What pymssql tells of these tokens."""
     for token in tokens:
         if token[0] in ("error", "info"):
             said, server, procedure = (each.decode("utf-16-le") for each in token[4:7])

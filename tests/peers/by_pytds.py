@@ -13,7 +13,7 @@ from pytds import tds_base, tds_types
 
 import scripts
 
-PATIENCE = 60
+PATIENCE = 120
 BUFFER = 65_536
 MAX_TYPES = (tds_types.NVarCharMaxSerializer, tds_types.VarCharMaxSerializer, tds_types.VarBinarySerializerMax)
 COUNT = re.compile(r"rows_affected=(-?[0-9]+)")
