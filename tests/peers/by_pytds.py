@@ -1,10 +1,20 @@
-"""Replies read by pytds (Debian's python3-tds): its session reads the packet from a transport that holds its bytes."""
+"""Replies read by pytds (Debian's python3-tds): packets, which its session reads from a transport that holds their
+bytes, and whole conversations with the bridge, in transactions.
+
+In a conversation pytds tells all sets and messages, and of each set the row count where the DONE's status has bit
+0010 (MS-TDS 2.2.7.6), else -1. It holds a packet in a buffer of the size that the login agreed, 4,096 bytes, and
+fails at a longer one; a reply is one packet whatever its length, as in the Rust, so the buffer is made longer here.
+"""
 import re
 import types
 
 import pytds.tds
 from pytds import tds_base, tds_types
 
+import scripts
+
+PATIENCE = 120
+BUFFER = 65_536
 MAX_TYPES = (tds_types.NVarCharMaxSerializer, tds_types.VarCharMaxSerializer, tds_types.VarBinarySerializerMax)
 COUNT = re.compile(r"rows_affected=(-?[0-9]+)")
 
@@ -34,7 +44,7 @@ def tokens(packet):
     connection = pytds.tds._TdsSocket()
     connection._login = types.SimpleNamespace(bytes_to_unicode=True)
     session = Session(connection, transport, None)
-    session._reader.set_block_size(65536)
+    session._reader.set_block_size(BUFFER)
     session.state = tds_base.TDS_READING
     found = []
     while True:
@@ -80,7 +90,8 @@ def column(each):
 def length(kind):
     if isinstance(kind, MAX_TYPES):
         return 0xFFFF
-    return int(2 * kind.size) if kind.type == tds_base.XSYBNVARCHAR else kind.size  # pytds counts an NVARCHAR in characters
+    # pytds counts an NVARCHAR in characters
+    return int(2 * kind.size) if kind.type == tds_base.XSYBNVARCHAR else kind.size
 
 
 def message(said):
@@ -101,14 +112,68 @@ def expected(script_tokens):
             codes.append(token[3])
             yield *token[:6], token[6].decode("utf-16-le")
         elif kind == "row":
-            yield "row", *(value(code, held) for code, held in zip(codes, token[1:]))
+            yield "row", *(scripts.value(code, held) for code, held in zip(codes, token[1:]))
         elif kind == "done":
             yield "done", token[1], token[3]
         else:
             yield *token[:4], *(held.decode("utf-16-le") for held in token[4:7]), token[7]
 
 
-def value(code, held):
-    if held is None or code in (0x26, 0xA5):
-        return held
-    return held.decode("cp1252" if code == 0xA7 else "utf-16-le")
+def conversation(port, texts, withdrawn):
+    """For each batch what pytds tells. One that is among `withdrawn` is sent before, and withdrawn after a row.
+
+    The first half is a transaction that is committed, the second half one that is rolled back."""
+    connection = pytds.connect("127.0.0.1", scripts.DATABASE, "desk", "secret", port=port, timeout=PATIENCE,
+                               login_timeout=PATIENCE, autocommit=False)
+    connection._conn.main_session._reader.set_block_size(BUFFER)
+    told = []
+    for text in texts:
+        if len(told) == len(texts) // 2:
+            connection.commit()
+        cursor = connection.cursor()
+        if text in withdrawn:
+            cursor.execute(text)
+            cursor.fetchone()
+            cursor.cancel()
+        told.append(heard(cursor, text))
+    connection.rollback()
+    connection.close()
+    return told
+
+
+def heard(cursor, text):
+    """All that pytds tells of one reply: messages, the error and sets. Behind a leading error it goes on."""
+    error, sets = [], []
+    try:
+        cursor.execute(text)
+    except tds_base.DatabaseError as raised:
+        error = [("error", raised.number % 2**32)]
+    try:
+        more = cursor.description is not None or cursor.nextset()
+        while more:
+            sets.append(("set", *(name for name, *_ in cursor.description)))
+            sets.extend(("row", *row) for row in cursor.fetchall())
+            sets.append(("count", cursor.rowcount))
+            more = cursor.nextset()
+    except Exception as raised:  # whatever else pytds raises is its answer
+        sets.append(("raised", repr(raised)))
+    return [told_message(said) for _, said in cursor.messages] + error + sets
+
+
+def told_message(said):
+    fields = said.number % 2**32, said.state, said.severity, said.text, said.srvname, said.procname
+    return "message", *fields, said.line % 2**32
+
+
+def conversation_expected(tokens):
+    """What pytds tells of these tokens."""
+    for token in tokens:
+        if token[0] in ("error", "info"):
+            yield "message", *token[1:4], *(held.decode("utf-16-le") for held in token[4:7]), token[7]
+    for token in tokens:
+        if token[0] == "error":
+            yield "error", token[1]
+    for columns, rows, done in scripts.sets(tokens):
+        yield "set", *(name for name, _ in columns)
+        yield from (("row", *row) for row in rows)
+        yield "count", scripts.believed(done)

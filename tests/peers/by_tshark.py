@@ -1,4 +1,4 @@
-"""Replies read by the TDS dissector of tshark (Debian's tshark): each stands in a capture as a TCP segment from port 1433."""
+"""Replies read by the TDS dissector of tshark (Debian's tshark): each is a TCP segment from port 1433 in a capture."""
 import re
 import struct
 import subprocess
@@ -6,6 +6,7 @@ import tempfile
 import xml.etree.ElementTree
 
 RAW_IP = 101
+HEADER_FIELDS = ("tds.type", "tds.status", "tds.length", "tds.channel", "tds.packet_number", "tds.window")
 # What XML has no room for; tshark cuts what it shows within a character, but its values are hexadecimal.
 NOT_XML = re.compile("[^\t\n\r\x20-\ud7ff\ue000-\ufffd\U00010000-\U0010ffff]")
 
@@ -25,7 +26,8 @@ def tokens(packets):
     with tempfile.NamedTemporaryFile(suffix=".pcap") as file:
         file.write(capture(packets))
         file.flush()
-        done = subprocess.run(["tshark", "-r", file.name, "-T", "pdml", "-J", "tds"], capture_output=True, check=True, timeout=600)
+        command = ["tshark", "-r", file.name, "-T", "pdml", "-J", "tds"]
+        done = subprocess.run(command, capture_output=True, check=True, timeout=600)
     tree = xml.etree.ElementTree.fromstring(NOT_XML.sub("?", done.stdout.decode(errors="replace")))
     return [list(read(frame)) for frame in tree.iter("packet")]
 
@@ -45,7 +47,7 @@ def read(frame):
             yield "done", number(field, "status"), number(field, "curcmd"), number(field, "donerowcount64")
         elif name in ("tds.error", "tds.info"):
             yield message(field)
-        elif not name.startswith(("tds.type", "tds.status", "tds.length", "tds.channel", "tds.packet_number", "tds.window")):
+        elif not name.startswith(HEADER_FIELDS):
             yield "other", name, field.get("showname")
 
 
@@ -88,7 +90,8 @@ def column(field):
 
     collation = b"".join(parts.get(name, b"") for name in ("collate_codepage", "collate_flags", "collate_charset_id"))
     limit = one("type_size", "large_type_size")
-    return "column", one("usertype"), one("results_token_flags"), one("results_token_type"), limit, collation, parts.get("colname", b"")
+    kind = one("usertype"), one("results_token_flags"), one("results_token_type")
+    return "column", *kind, limit, collation, parts.get("colname", b"")
 
 
 def cell(field):

@@ -1,20 +1,24 @@
 """Scripts that fit, and the tokens that they emit, from document 01 ('The script', 'What a script emits').
 
-A token is a tuple: ('columns', count); ('column', user type, flags, code, length, collation, name); ('error' or 'info', number,
-state, severity, message, server, procedure, line); ('row', values); ('done', status, command, count). Texts, collations and the
-values that are no integers are bytes; a null is None.
+A token is a tuple: ('columns', count); ('column', user type, flags, code, length, collation, name); ('error' or
+'info', number, state, severity, message, server, procedure, line); ('row', values); ('done', status, command,
+count). Texts, collations and the values that are no integers are bytes; a null is None.
 """
 import struct
 
 SET, COLUMN, INFO, ROW, CELL, CHUNK, LEADING, TERMINAL, TRAILING = range(1, 10)
 # Type byte: the code and length that are sent.
-TYPES = {1: (0x26, 1), 2: (0x26, 2), 3: (0x26, 4), 4: (0x26, 8), 5: (0xE7, 8000), 6: (0xE7, 0xFFFF), 7: (0xA7, 0xFFFF), 8: (0xA5, 0xFFFF)}
+TYPES = {1: (0x26, 1), 2: (0x26, 2), 3: (0x26, 4), 4: (0x26, 8),
+         5: (0xE7, 8000), 6: (0xE7, 0xFFFF), 7: (0xA7, 0xFFFF), 8: (0xA5, 0xFFFF)}
 MAX_VALUES = {6: 6, 7: 8, 8: 9}
 MAX_NULL, NULL = 7, 10
 WITH_COLLATION = (5, 6, 7)
 # Latin1_General: texts of one byte a character are read by it.
 LATIN = bytes([0x09, 0x04, 0xD0, 0x00, 0x34])
 SELECT = 0x00C1
+DONE_COUNT = 0x0010
+# The database that a client asks for; pymssql takes ASCII alone.
+DATABASE = "station 7"
 LETTERS = "abcXYZ 019_-é€Ωж中あ"
 PAIRS = "😀𝄞"
 
@@ -39,10 +43,18 @@ class Script:
     def put(self, kind, payload=b""):
         self.records.append(record(kind, payload))
 
+    def severity(self, _):
+        """The severity of an 'info' or an 'error': any."""
+        return self.source.getrandbits(8)
+
+    def chunk(self, held, unit):
+        """The length of the next chunk of a value of which this is left."""
+        return unit * self.source.choice((1, 2, 7, len(held)))
+
     def info(self, kind):
         source = self.source
         number, line = source.getrandbits(32), source.getrandbits(32)
-        state, severity = source.getrandbits(8), source.getrandbits(8)
+        state, severity = source.getrandbits(8), self.severity("info")
         texts = [text(source, most, LETTERS + PAIRS) for most in (30, 8, 8)]
         counts = [len(each) // 2 for each in texts]
         self.put(kind, struct.pack("<IBBI3H", number, state, severity, line, *counts) + b"".join(texts))
@@ -50,13 +62,14 @@ class Script:
 
     def error(self, kind, status):
         """Puts an error; answers the tokens that it is where it is sent."""
-        number, severity = self.source.getrandbits(32), self.source.getrandbits(8)
+        number, severity = self.source.getrandbits(32), self.severity("error")
         said = text(self.source, 40, LETTERS + PAIRS)
         self.put(kind, struct.pack("<IB", number, severity) + said)
         return [("error", number, 1, severity, said, b"", b"", 1), ("done", status, SELECT, 0)]
 
     def column(self, type_byte):
-        collation = LATIN if type_byte == 7 else struct.pack("<IB", self.source.getrandbits(32) & ~0x0C000000, self.source.getrandbits(8))
+        drawn = struct.pack("<IB", self.source.getrandbits(32) & ~0x0C000000, self.source.getrandbits(8))
+        collation = LATIN if type_byte == 7 else drawn
         name = text(self.source, 10)
         self.put(COLUMN, bytes([type_byte]) + collation + name)
         sent = collation if type_byte in WITH_COLLATION else b""
@@ -78,7 +91,8 @@ class Script:
         width = TYPES[type_byte][1]
         half = 1 << (8 * width - 1)
         low, high = (0, 255) if width == 1 else (-half, half - 1)
-        value = self.source.choice((low, high, -1 if low else 128, self.source.randint(low, high), self.source.randint(low, high)))
+        drawn = [self.source.randint(low, high) for _ in range(2)]
+        value = self.source.choice((low, high, -1 if low else 128, *drawn))
         self.put(CELL, bytes([type_byte]) + value.to_bytes(width, "little", signed=width > 1))
         return value
 
@@ -100,7 +114,7 @@ class Script:
     def chunks(self, held, unit):
         at = 0
         while at < len(held):
-            size = unit * self.source.choice((1, 2, 7, len(held)))
+            size = self.chunk(held[at:], unit)
             self.put(CHUNK, held[at:at + size])
             at += size
 
@@ -130,7 +144,7 @@ class Script:
             self.tokens.append(("row", *(self.cell(type_byte) for type_byte in types)))
 
     def errors(self, first, terminal, start):
-        """Errors stand behind the columns. Those of the first set are sent: a leading one before the set, a terminal one alone."""
+        """Errors stand behind the columns. The first set's are sent: a leading one before it, a terminal one alone."""
         if self.source.random() < 0.3:
             sent = self.error(LEADING, 0x0003)
             if first:
@@ -141,13 +155,39 @@ class Script:
                 self.alone = sent
 
 
-def random_script(source):
+def random_script(source, kind=Script):
     """A script that fits, and its tokens."""
-    script = Script(source)
+    script = kind(source)
     terminal, sets = source.random() < 0.1, source.choice((1, 1, 2, 4))
     for i in range(sets):
         script.set(i == 0, i == sets - 1, terminal and i == 0)
     return script.bytes(), script.alone or script.tokens
+
+
+def value(code, held):
+    """A cell's value as a client hands it out: texts decoded."""
+    if held is None or code in (0x26, 0xA5):
+        return held
+    return held.decode("cp1252" if code == 0xA7 else "utf-16-le")
+
+
+def sets(tokens):
+    """The sets among tokens: names and codes of the columns, rows of values, and the DONE."""
+    columns = None
+    for token in tokens:
+        if token[0] == "columns":
+            columns, rows = [], []
+        elif token[0] == "column":
+            columns.append((token[6].decode("utf-16-le"), token[3]))
+        elif token[0] == "row":
+            rows.append(tuple(value(code, held) for (_, code), held in zip(columns, token[1:])))
+        elif token[0] == "done" and columns is not None:
+            yield columns, rows, token
+
+
+def believed(done):
+    """The row count of a DONE where its status says that it is valid (MS-TDS 2.2.7.6), else -1, as clients say."""
+    return done[3] if done[1] & DONE_COUNT else -1
 
 
 def long_scripts():
@@ -155,15 +195,27 @@ def long_scripts():
     name = "n" * 255
     wide = name.encode("utf-16-le")
     text_column = record(COLUMN, b"\5" + LATIN + wide)
-    note = record(INFO, struct.pack("<IBBI3H", 1, 2, 3, 4, 2000, 255, 255) + "m".encode("utf-16-le") * 2000 + wide + wide)
+    said = "m".encode("utf-16-le") * 2000
+    note = record(INFO, struct.pack("<IBBI3H", 1, 2, 3, 4, 2000, 255, 255) + said + wide + wide)
     held = "é中".encode("utf-16-le") * 2000
     script = record(SET) + text_column + note + record(ROW) + record(CELL, b"\5" + held)
-    said = ("info", 1, 2, 3, "m".encode("utf-16-le") * 2000, wide, wide, 4)
-    start = ("columns", 1), ("column", 0, 0, 0xE7, 8000, LATIN, wide), said
+    start = ("columns", 1), ("column", 0, 0, 0xE7, 8000, LATIN, wide), ("info", 1, 2, 3, said, wide, wide, 4)
     yield script, [*start, ("row", held), ("done", 0, SELECT, 1)]
     for type_byte, unit in ((6, b"x\0"), (7, b"x"), (8, b"\xFF")):
         held = unit * 10000
         collation = LATIN if type_byte in WITH_COLLATION else b""
-        script = record(SET) + record(COLUMN, bytes([type_byte]) + LATIN) + record(ROW) + record(CELL, bytes([MAX_VALUES[type_byte]]))
+        script = record(SET) + record(COLUMN, bytes([type_byte]) + LATIN) + record(ROW)
+        script += record(CELL, bytes([MAX_VALUES[type_byte]])) + record(CHUNK, held) + record(CHUNK, unit)
         column = ("column", 0, 0, *TYPES[type_byte], collation, b"")
-        yield script + record(CHUNK, held) + record(CHUNK, unit), [("columns", 1), column, ("row", held + unit), ("done", 0, SELECT, 1)]
+        yield script, [("columns", 1), column, ("row", held + unit), ("done", 0, SELECT, 1)]
+
+
+def longest_scripts():
+    """Scripts whose replies have 65,535 bytes: one of a lone value, and one of as many rows as there can be."""
+    held, rows = b"x" * 65_484, 21_834
+    column = ("column", 0, 0, *TYPES[8], b"", b"")
+    script = record(SET) + record(COLUMN, b"\x08" + LATIN) + record(ROW) + record(CELL, b"\x09") + record(CHUNK, held)
+    yield script, [("columns", 1), column, ("row", held), ("done", 0, SELECT, 1)]
+    column = ("column", 0, 0, *TYPES[1], b"", b"")
+    script = record(SET) + record(COLUMN, b"\x01" + LATIN) + (record(ROW) + record(CELL, b"\x01\x07")) * rows
+    yield script, [("columns", 1), column, *[("row", 7)] * rows, ("done", 0, SELECT, rows)]
