@@ -1,4 +1,5 @@
-"""The most stack that functions of a disassembly (`objdump -d --no-show-raw-insn`, x86-64) can have below their caller's.
+"""The most stack that functions can have below their caller's, by a disassembly (`objdump -d --no-show-raw-insn`) for
+x86-64.
 
 A function's depth is followed from its entry along its jumps; a jump by a table keeps the depth to every place that is
 reached by nothing else. What stands below the stack pointer (the red zone) counts, and so does each call's return

@@ -98,8 +98,8 @@ def by_pytds(cases):
         old.unlink()
     # Names of one hash in every run, so that Python's tables are the same too.
     places = {**os.environ, "PYTHONHASHSEED": "0"}
-    given(lambda words, **more: table.callgrind(words, file, "--dump-before=getppid", **more), [*PYTDS, "count"], content,
-          env=places)
+    count = lambda words, **more: table.callgrind(words, file, "--dump-before=getppid", **more)
+    given(count, [*PYTDS, "count"], content, env=places)
     # The first part is what stands before the first packet, the last one what follows the last.
     counted = [table.total(file.with_name(f"{file.name}.{part}")) for part in range(2, len(cases) + 2)]
     lines = given(table.said, [*PYTDS, "time"], content).splitlines()

@@ -1,8 +1,8 @@
 /* Measures the stack of each export of the static library `station` on x86-64: the call is made on a painted stack, and
  * the lowest byte that lost its paint tells how deep it went. Prints a line for each export: name, bytes, calls made.
  *
- * Every export is called on every input: a demanding one of each kind, all its prefixes, and it with each byte changed in
- * turn; with room to answer and without; on two paints, since a byte may be written that looks like one of them. */
+ * Every export is called on every input: a demanding one of each kind, all its prefixes, and it with each byte changed
+ * in turn; with room to answer and without; on two paints, since a byte may be written that looks like one of them. */
 #include <stdio.h>
 #include <stdlib.h>
 #include <string.h>
@@ -35,8 +35,8 @@ __asm__("call_on:\n"
         "    leave\n"
         "    ret\n");
 
-/* An export and its parameters in order: i the input, t a text, b the lent buffer, d the lent ids, o the lent slots (each
- * a pointer and a length), f a bool, c a number of one byte, n another number. */
+/* An export and its parameters in order: i the input, t a text, b the lent buffer, d the lent ids, o the lent slots
+ * (each a pointer and a length), f a bool, c a number of one byte, n another number. */
 struct export {
     const char *name;
     void (*function)(void);

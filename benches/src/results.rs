@@ -44,7 +44,7 @@ pub fn replies() -> Vec<Case> {
     let mut cases = Vec::new();
     for kind in &KINDS {
         for (size, most) in SIZES {
-            let name = format!("{}, {size}", kind.name);
+            let name = format!("reply of {}, {size}", kind.name);
             let run = move |side, measure| reply(kind, most, side, measure);
             cases.push(Case::new(name, "result", run));
         }
