@@ -50,20 +50,20 @@ def row(program, case, group, groups, growth):
     """The row of a case. Its bytes are those of the reply, or those of the input where there is none."""
     size, answer, checksum, rust = count(program, case, "rust")
     ours_time, rust_time = table.said([program, case, "time"]).split()
-    rust_time = float(rust_time) / 1000
+    rust_time = float(rust_time)
     per = answer if group == "result" else size
     cells = [case, f"{size:,}", f"{answer:,}" if group == "result" else "-"]
     if group not in groups:
-        return [*cells, "not exported", f"{rust:,}", "", "", f"{rust_time:,.2f}", "", "", f"{rust / per:.2f}"]
-    ours_time = float(ours_time) / 1000
+        return [*cells, "not exported", f"{rust:,}", "", "", table.microseconds(rust_time), "", "", f"{rust / per:.2f}"]
+    ours_time = float(ours_time)
     _, _, ours_checksum, ours = count(program, case, "ours")
     if ours_checksum != checksum:
         sys.exit(f"{case}: the answers differ")
     kind = case.rsplit(",", 1)[0]
     growth.setdefault((kind, "ours"), []).append((per, ours))
     growth.setdefault((kind, "Rust"), []).append((per, rust))
-    return [*cells, f"{ours:,}", f"{rust:,}", f"{ours / rust:.2f}", f"{ours_time:,.2f}", f"{rust_time:,.2f}",
-            f"{ours_time / rust_time:.2f}", f"{ours / per:.2f}", f"{rust / per:.2f}"]
+    return [*cells, f"{ours:,}", f"{rust:,}", f"{ours / rust:.2f}", table.microseconds(ours_time),
+            table.microseconds(rust_time), f"{ours_time / rust_time:.2f}", f"{ours / per:.2f}", f"{rust / per:.2f}"]
 
 
 def measured(chosen):

@@ -8,7 +8,6 @@ none: starting is left out, the metadata and the DONE are in."""
 import os
 import re
 import resource
-import statistics
 import struct
 import subprocess
 import sys
@@ -25,8 +24,8 @@ SIZES = {"1 KB": 1_024, "4 KB": 4_096, "16 KB": 16_384, "64 KB": 65_535}
 HEADS = ["case", "bytes", "tokens", "ours", "pytds", "ours/pytds", "ours µs", "pytds µs", "ours/pytds", "ours/token",
          "of it printing", "pytds/token", "ours/byte"]
 PRINTING = re.compile(r"^ *([0-9,]+) .*:answer::lines::text(?: |$)", re.M)
-# A time is the median of so many runs, each of about so many instructions.
-RUNS = 11
+# A time is the least of so many runs, each of about so many instructions: whatever else the machine does adds to it.
+RUNS = 15
 INSTRUCTIONS = 200_000_000
 
 
@@ -87,7 +86,7 @@ def ours_time(words, content, copies):
         given(subprocess.run, words, listed(content, count), check=True, stdout=subprocess.DEVNULL)
         return processor_time() - start
 
-    return statistics.median((took(copies) - took(0)) / copies for _ in range(RUNS))
+    return min((took(copies) - took(0)) / copies for _ in range(RUNS))
 
 
 def by_pytds(cases):
@@ -119,12 +118,13 @@ def row(case, columns, rows, peer, growth):
     growth.setdefault((kind, "ours"), []).append((len(content), each))
     cells = [case, f"{len(content):,}", f"{count:,}", f"{each:,}"]
     own = [f"{each / count:,.1f}", "-" if printing is None else f"{printing / count:,.1f}"]
+    ours_time, per_byte = table.microseconds(nanoseconds), f"{each / len(content):,.2f}"
     if not peer:
-        return [*cells, "-", "-", f"{nanoseconds / 1000:,.1f}", "-", "-", *own, "-", f"{each / len(content):,.2f}"]
+        return [*cells, "-", "-", ours_time, "-", "-", *own, "-", per_byte]
     theirs, their_time = peer
     growth.setdefault((kind, "pytds"), []).append((len(content), theirs))
-    return [*cells, f"{theirs:,}", f"{each / theirs:.2f}", f"{nanoseconds / 1000:,.1f}", f"{their_time / 1000:,.1f}",
-            f"{nanoseconds / their_time:.2f}", *own, f"{theirs / count:,.0f}", f"{each / len(content):,.2f}"]
+    return [*cells, f"{theirs:,}", f"{each / theirs:.2f}", ours_time, table.microseconds(their_time),
+            f"{nanoseconds / their_time:.2f}", *own, f"{theirs / count:,.0f}", per_byte]
 
 
 def has_pytds():

@@ -32,6 +32,12 @@ def total(counts):
     return int(re.search(r"^totals: ([0-9]+)", counts.read_text(), re.M)[1])
 
 
+def microseconds(nanoseconds):
+    """With as many digits as a time of its size is worth."""
+    time = nanoseconds / 1000
+    return f"{time:,.{3 if time < 1 else 2 if time < 100 else 1}f}"
+
+
 def show(heads, rows):
     """A table in Markdown: the first column to the left, the others to the right."""
     widths = [max(len(row[place]) for row in [heads, *rows]) for place in range(len(heads))]

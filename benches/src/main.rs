@@ -35,13 +35,14 @@ mod utf16;
 include!(concat!(env!("OUT_DIR"), "/rust_modules.rs"));
 
 use cases::{Case, Outcome, Side, cases};
-use region::{Measure, median};
+use region::Measure;
 use std::process::ExitCode;
 
 const USAGE: &str = "bench list\nbench CASE ours|rust|time";
 
-/// How often the sides take turns. A time is the median of so many medians.
-const ROUNDS: usize = 15;
+/// How often the sides take turns. A time is the least of so many medians: whatever else the machine
+/// does only adds to it.
+const ROUNDS: usize = 51;
 
 fn main() -> ExitCode {
     let words: Vec<String> = std::env::args().skip(1).collect();
@@ -90,10 +91,10 @@ fn time(name: &str) -> Option<()> {
     Some(())
 }
 
-/// The median, or `-` where there is none.
+/// The least, or `-` where there is none.
 fn shown(times: Vec<Option<f64>>) -> String {
-    let times: Option<Vec<f64>> = times.into_iter().collect();
-    times.map_or("-".into(), |times| format!("{:.1}", median(times)))
+    let least = times.into_iter().flatten().reduce(f64::min);
+    least.map_or("-".into(), |time| format!("{time:.1}"))
 }
 
 /// The FNV-1a sum.

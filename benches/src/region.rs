@@ -45,13 +45,9 @@ fn measured(call: &mut dyn FnMut()) {
 fn timed<T>(call: &mut dyn FnMut() -> T) -> (T, f64) {
     let answer = call();
     let calls = (SAMPLE.as_nanos() as f64 / sample(call, 1)).ceil() as usize;
-    (answer, median((0..SAMPLES).map(|_| sample(call, calls)).collect()))
-}
-
-/// The middle one of an odd number of times.
-pub fn median(mut times: Vec<f64>) -> f64 {
+    let mut times: Vec<f64> = (0..SAMPLES).map(|_| sample(call, calls)).collect();
     times.sort_by(f64::total_cmp);
-    times[times.len() / 2]
+    (answer, times[SAMPLES / 2])
 }
 
 /// The nanoseconds of a call, out of some in a row. What they answer is dropped outside.
