@@ -86,7 +86,7 @@ def ours_time(words, content, copies):
         given(subprocess.run, words, listed(content, count), check=True, stdout=subprocess.DEVNULL)
         return processor_time() - start
 
-    return min((took(copies) - took(0)) / copies for _ in range(RUNS))
+    return (min(took(copies) for _ in range(RUNS)) - min(took(0) for _ in range(RUNS))) / copies
 
 
 def by_pytds(cases):
@@ -118,12 +118,12 @@ def row(case, columns, rows, peer, growth):
     growth.setdefault((kind, "ours"), []).append((len(content), each))
     cells = [case, f"{len(content):,}", f"{count:,}", f"{each:,}"]
     own = [f"{each / count:,.1f}", "-" if printing is None else f"{printing / count:,.1f}"]
-    ours_time, per_byte = table.microseconds(nanoseconds), f"{each / len(content):,.2f}"
+    took, per_byte = table.microseconds(nanoseconds), f"{each / len(content):,.2f}"
     if not peer:
-        return [*cells, "-", "-", ours_time, "-", "-", *own, "-", per_byte]
+        return [*cells, "-", "-", took, "-", "-", *own, "-", per_byte]
     theirs, their_time = peer
     growth.setdefault((kind, "pytds"), []).append((len(content), theirs))
-    return [*cells, f"{theirs:,}", f"{each / theirs:.2f}", ours_time, table.microseconds(their_time),
+    return [*cells, f"{theirs:,}", f"{each / theirs:.2f}", took, table.microseconds(their_time),
             f"{nanoseconds / their_time:.2f}", *own, f"{theirs / count:,.0f}", per_byte]
 
 
