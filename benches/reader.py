@@ -25,7 +25,7 @@ HEADS = ["case", "bytes", "tokens", "ours", "pytds", "ours/pytds", "ours µs", "
          "of it printing", "pytds/token", "ours/byte"]
 PRINTING = re.compile(r"^ *([0-9,]+) .*:answer::lines::text(?: |$)", re.M)
 # A time is the least of so many runs, each of about so many instructions: whatever else the machine does adds to it.
-RUNS = 15
+RUNS = 31
 INSTRUCTIONS = 200_000_000
 
 
