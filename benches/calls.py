@@ -1,6 +1,7 @@
 """Calls of the static library `station` beside the Rust's on the same inputs: the program `bench` of this folder runs
 each case on each side under callgrind, and on both in turn for their times."""
 
+import math
 import os
 import subprocess
 import sys
@@ -46,16 +47,19 @@ def count(program, case, side):
     return int(size), int(answer), checksum, instructions
 
 
-def row(program, case, group, groups, growth):
+def times(program, cases):
+    """The nanoseconds of ours and of the Rust's for each case; ours are endless where the library lacks the call."""
+    said = " ".join(table.said([program, case, "time"]) for case, _ in cases).split()
+    return [math.inf if time == "-" else float(time) for time in said]
+
+
+def row(program, case, group, ours_time, rust_time, growth):
     """The row of a case. Its bytes are those of the reply, or those of the input where there is none."""
     size, answer, checksum, rust = count(program, case, "rust")
-    ours_time, rust_time = table.said([program, case, "time"]).split()
-    rust_time = float(rust_time)
     per = answer if group == "result" else size
     cells = [case, f"{size:,}", f"{answer:,}" if group == "result" else "-"]
-    if group not in groups:
+    if ours_time == math.inf:
         return [*cells, "not exported", f"{rust:,}", "", "", table.microseconds(rust_time), "", "", f"{rust / per:.2f}"]
-    ours_time = float(ours_time)
     _, _, ours_checksum, ours = count(program, case, "ours")
     if ours_checksum != checksum:
         sys.exit(f"{case}: the answers differ")
@@ -68,9 +72,9 @@ def row(program, case, group, groups, growth):
 
 def measured(chosen):
     """Heads, rows and growth of the chosen cases."""
-    groups = exported()
-    program = build(groups)
+    program = build(exported())
     growth = {}
-    listed = [line.rsplit(" ", 1) for line in table.said([program, "list"]).splitlines()]
-    rows = [row(program, case, group, groups, growth) for case, group in listed if chosen(case)]
-    return HEADS, rows, growth
+    cases = [line.rsplit(" ", 1) for line in table.said([program, "list"]).splitlines()]
+    cases = [(case, group) for case, group in cases if chosen(case)]
+    took = table.least(lambda: times(program, cases))
+    return HEADS, [row(program, *case, *pair, growth) for case, *pair in zip(cases, took[::2], took[1::2])], growth

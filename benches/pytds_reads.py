@@ -16,7 +16,7 @@ sys.path.insert(0, sys.argv[1])
 
 import by_pytds
 
-READS = {"count": (1, 0), "time": (31, 1_000_000_000)}
+READS = {"count": (1, 0), "time": (5, 300_000_000)}
 
 
 def packets(given):

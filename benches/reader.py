@@ -18,6 +18,7 @@ import table
 
 PROGRAM = Path(os.environ.get("ANSWER", table.ROOT / "target" / "bin" / "answer")).resolve()
 PYTHON = "/usr/bin/python3"
+ANSWER = [PROGRAM, "many", "tokens"]
 PYTDS = [PYTHON, table.ROOT / "benches" / "pytds_reads.py", table.ROOT / "tests" / "peers"]
 COLUMNS = [1, 40, 128]
 SIZES = {"1 KB": 1_024, "4 KB": 4_096, "16 KB": 16_384, "64 KB": 65_535}
@@ -25,7 +26,7 @@ HEADS = ["case", "bytes", "tokens", "ours", "pytds", "ours/pytds", "ours µs", "
          "of it printing", "pytds/token", "ours/byte"]
 PRINTING = re.compile(r"^ *([0-9,]+) .*:answer::lines::text(?: |$)", re.M)
 # A time is the least of so many runs, each of about so many instructions: whatever else the machine does adds to it.
-RUNS = 31
+RUNS = 5
 INSTRUCTIONS = 200_000_000
 
 
@@ -58,20 +59,30 @@ def listed(content, copies):
     return copies * (struct.pack("<I", len(content)) + content)
 
 
-def ours(case, content, expected):
-    """Instructions of a packet and of printing texts in it (None where that is no function of its own), nanoseconds."""
-    words, file = [PROGRAM, "many", "tokens"], table.counts(case, "ours")
+def ours(case, columns, rows):
+    """Instructions of a packet, and of printing texts in it (None where that is no function of its own)."""
+    file, content = table.counts(case, "ours"), packet(columns, rows)
     totals, prints = [], []
     for copies in (1, 2):
-        said, total = given(lambda words, **more: table.callgrind(words, file, **more), words, listed(content, copies))
+        count = lambda words, **more: table.callgrind(words, file, **more)
+        said, total = given(count, ANSWER, listed(content, copies))
         lines = said.splitlines()
-        if len(lines) != copies * (expected + 2) or lines[-2:] != ["end", ""]:
+        if len(lines) != copies * (tokens(columns, rows) + 2) or lines[-2:] != ["end", ""]:
             sys.exit(f"{case}: {len(lines)} lines, the last {lines[-2:]}")
         found = PRINTING.search(table.said(["callgrind_annotate", "--inclusive=yes", "--threshold=100", file]))
         totals.append(total)
         prints.append(int(found[1].replace(",", "")) if found else None)
-    each = totals[1] - totals[0]
-    return each, None if None in prints else prints[1] - prints[0], ours_time(words, content, INSTRUCTIONS // each + 1)
+    return totals[1] - totals[0], None if None in prints else prints[1] - prints[0]
+
+
+def ours_time(content, copies):
+    """Nanoseconds of a packet, out of some."""
+    def took(count):
+        start = processor_time()
+        given(subprocess.run, ANSWER, listed(content, count), check=True, stdout=subprocess.DEVNULL)
+        return processor_time() - start
+
+    return (min(took(copies) for _ in range(RUNS)) - min(took(0) for _ in range(RUNS))) / copies
 
 
 def processor_time():
@@ -80,51 +91,47 @@ def processor_time():
     return 1e9 * (used.ru_utime + used.ru_stime)
 
 
-def ours_time(words, content, copies):
-    def took(count):
-        start = processor_time()
-        given(subprocess.run, words, listed(content, count), check=True, stdout=subprocess.DEVNULL)
-        return processor_time() - start
-
-    return (min(took(copies) for _ in range(RUNS)) - min(took(0) for _ in range(RUNS))) / copies
-
-
 def by_pytds(cases):
-    """Instructions of each case's packet and nanoseconds, all read in one process."""
-    content = b"".join(listed(packet(columns, rows), 1) for _, columns, rows in cases)
+    """Instructions of each case's packet, all read in one process."""
     file = table.counts("reader", "pytds")
     for old in file.parent.glob(f"{file.name}.*"):
         old.unlink()
     # Names of one hash in every run, so that Python's tables are the same too.
     places = {**os.environ, "PYTHONHASHSEED": "0"}
     count = lambda words, **more: table.callgrind(words, file, "--dump-before=getppid", **more)
-    given(count, [*PYTDS, "count"], content, env=places)
+    given(count, [*PYTDS, "count"], all_listed(cases), env=places)
     # The first part is what stands before the first packet, the last one what follows the last.
-    counted = [table.total(file.with_name(f"{file.name}.{part}")) for part in range(2, len(cases) + 2)]
-    lines = given(table.said, [*PYTDS, "time"], content).splitlines()
+    return [table.total(file.with_name(f"{file.name}.{part}")) for part in range(2, len(cases) + 2)]
+
+
+def pytds_times(cases):
+    """Nanoseconds of each case's packet."""
     found = []
-    for (case, columns, rows), instructions, line in zip(cases, counted, lines, strict=True):
+    lines = given(table.said, [*PYTDS, "time"], all_listed(cases)).splitlines()
+    for (case, columns, rows), line in zip(cases, lines, strict=True):
         met_rows, met_nulls, nanoseconds = line.split()
         if (int(met_rows), int(met_nulls)) != (rows, rows * columns):
             sys.exit(f"{case}: pytds read {met_rows} rows and {met_nulls} NULLs")
-        found.append((instructions, float(nanoseconds)))
+        found.append(float(nanoseconds))
     return found
 
 
-def row(case, columns, rows, peer, growth):
-    content, count = packet(columns, rows), tokens(columns, rows)
-    each, printing, nanoseconds = ours(case, content, count)
+def all_listed(cases):
+    return b"".join(listed(packet(columns, rows), 1) for _, columns, rows in cases)
+
+
+def row(case, columns, rows, counted, took, peer, growth):
+    size, count, (each, printing) = len(packet(columns, rows)), tokens(columns, rows), counted
     kind = case.rsplit(",", 1)[0]
-    growth.setdefault((kind, "ours"), []).append((len(content), each))
-    cells = [case, f"{len(content):,}", f"{count:,}", f"{each:,}"]
+    growth.setdefault((kind, "ours"), []).append((size, each))
+    cells = [case, f"{size:,}", f"{count:,}", f"{each:,}"]
     own = [f"{each / count:,.1f}", "-" if printing is None else f"{printing / count:,.1f}"]
-    took, per_byte = table.microseconds(nanoseconds), f"{each / len(content):,.2f}"
     if not peer:
-        return [*cells, "-", "-", took, "-", "-", *own, "-", per_byte]
+        return [*cells, "-", "-", table.microseconds(took), "-", "-", *own, "-", f"{each / size:,.2f}"]
     theirs, their_time = peer
-    growth.setdefault((kind, "pytds"), []).append((len(content), theirs))
-    return [*cells, f"{theirs:,}", f"{each / theirs:.2f}", took, table.microseconds(their_time),
-            f"{nanoseconds / their_time:.2f}", *own, f"{theirs / count:,.0f}", per_byte]
+    growth.setdefault((kind, "pytds"), []).append((size, theirs))
+    return [*cells, f"{theirs:,}", f"{each / theirs:.2f}", table.microseconds(took), table.microseconds(their_time),
+            f"{took / their_time:.2f}", *own, f"{theirs / count:,.0f}", f"{each / size:,.2f}"]
 
 
 def has_pytds():
@@ -147,5 +154,10 @@ def measured(chosen):
     if PROGRAM.read_bytes()[:4] != b"\x7fELF":
         sys.exit(f"{PROGRAM} is a script: its shell would be counted")
     table.TARGET.mkdir(parents=True, exist_ok=True)
-    peers = by_pytds(cases) if has_pytds() else [None] * len(cases)
-    return HEADS, [row(*case, peer, growth) for case, peer in zip(cases, peers)], growth
+    counted = [ours(*case) for case in cases]
+    runs = [(packet(*case[1:]), INSTRUCTIONS // each + 1) for case, (each, _) in zip(cases, counted)]
+    took = table.least(lambda: [ours_time(*run) for run in runs])
+    peers = [None] * len(cases)
+    if has_pytds():
+        peers = list(zip(by_pytds(cases), table.least(lambda: pytds_times(cases))))
+    return HEADS, [row(*case, *rest, growth) for case, *rest in zip(cases, counted, took, peers)], growth

@@ -9,6 +9,8 @@ ROOT = Path(__file__).resolve().parent.parent
 TARGET = Path(os.environ.get("CARGO_TARGET_DIR", ROOT / "target" / "benches")).resolve()
 # Counts grow with the bytes where each byte more costs the same between all sizes, but for this part of it.
 NEAR = 0.1
+# How often all times are taken: a moment at which the machine is busy does not meet every time of a case.
+PASSES = 5
 
 
 def said(words, **more):
@@ -30,6 +32,11 @@ def callgrind(words, counts, *options, **more):
 def total(counts):
     """The instructions in a file of callgrind's."""
     return int(re.search(r"^totals: ([0-9]+)", counts.read_text(), re.M)[1])
+
+
+def least(times):
+    """The least of each time; `times` takes them all once."""
+    return [min(each) for each in zip(*(times() for _ in range(PASSES)))]
 
 
 def microseconds(nanoseconds):

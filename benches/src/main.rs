@@ -42,7 +42,7 @@ const USAGE: &str = "bench list\nbench CASE ours|rust|time";
 
 /// How often the sides take turns. A time is the least of so many medians: whatever else the machine
 /// does only adds to it.
-const ROUNDS: usize = 201;
+const ROUNDS: usize = 41;
 
 fn main() -> ExitCode {
     let words: Vec<String> = std::env::args().skip(1).collect();
