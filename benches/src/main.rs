@@ -1,8 +1,10 @@
-//! Runs one case once on one side, for an instruction count.
+//! Runs one case, for an instruction count or for times.
 //!
 //! `bench list` prints the cases, each with the group of its export. `bench CASE ours|rust` runs
 //! the case's call once to warm up and once within `measured`, and prints the bytes of its input,
-//! the bytes of its answer and the answer's sum.
+//! the bytes of its answer and the answer's sum. `bench CASE time` runs the call on both sides in
+//! turn, many times, and prints the nanoseconds of ours and of the Rust's; ours is `-` where the
+//! library does not export it.
 
 mod cases;
 mod region;
@@ -32,10 +34,15 @@ mod utf16;
 // The modules `protocol` and `query_response` of docs/src, as build.rs places them.
 include!(concat!(env!("OUT_DIR"), "/rust_modules.rs"));
 
-use cases::{Outcome, Side, cases};
+use cases::{Case, Outcome, Side, cases};
+use region::Measure;
 use std::process::ExitCode;
 
-const USAGE: &str = "bench list\nbench CASE ours|rust";
+const USAGE: &str = "bench list\nbench CASE ours|rust|time";
+
+/// How often the sides take turns. A time is the least of so many medians: whatever else the machine
+/// does only adds to it.
+const ROUNDS: usize = 41;
 
 fn main() -> ExitCode {
     let words: Vec<String> = std::env::args().skip(1).collect();
@@ -45,8 +52,9 @@ fn main() -> ExitCode {
             list();
             Some(())
         }
-        [case, "ours"] => run(case, Side::Ours),
-        [case, "rust"] => run(case, Side::Rust),
+        [case, "ours"] => count(case, Side::Ours),
+        [case, "rust"] => count(case, Side::Rust),
+        [case, "time"] => time(case),
         _ => None,
     };
     if done.is_none() {
@@ -62,12 +70,31 @@ fn list() {
     }
 }
 
+fn find(name: &str) -> Option<Case> {
+    cases().into_iter().find(|case| case.name == name)
+}
+
 /// None where there is no case of the name, or the library does not export its call.
-fn run(name: &str, side: Side) -> Option<()> {
-    let case = cases().into_iter().find(|case| case.name == name)?;
-    let Outcome { input, answer } = (case.run)(side)?;
+fn count(name: &str, side: Side) -> Option<()> {
+    let Outcome { input, answer, .. } = (find(name)?.run)(side, Measure::Count)?;
     println!("{input} {} {:016X}", answer.len(), sum(&answer));
     Some(())
+}
+
+/// None where there is no case of the name.
+fn time(name: &str) -> Option<()> {
+    let run = find(name)?.run;
+    let took = |side| Some(run(side, Measure::Time)?.time);
+    let (ours, rust): (Vec<_>, Vec<_>) =
+        (0..ROUNDS).map(|_| (took(Side::Ours), took(Side::Rust))).unzip();
+    println!("{} {}", shown(ours), shown(rust));
+    Some(())
+}
+
+/// The least, or `-` where there is none.
+fn shown(times: Vec<Option<f64>>) -> String {
+    let least = times.into_iter().flatten().reduce(f64::min);
+    least.map_or("-".into(), |time| format!("{time:.1}"))
 }
 
 /// The FNV-1a sum.

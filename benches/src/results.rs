@@ -1,17 +1,15 @@
 //! Replies to scripts: rows of one kind, as many as there is room for.
 
-use crate::cases::{Case, Outcome, Side};
+use crate::cases::{Case, Outcome, SIZES, Side};
 use crate::protocol;
 use crate::query_response::{
     ColumnDefinition, ColumnValue, QueryResponse, Row, SqlDataType, SqlDataType::*,
 };
-use crate::region::counted;
+use crate::region::Measure;
 use crate::script::records::{Record, cell, chunk, column, row, set, written};
 use crate::utf16;
 use bytes::BytesMut;
 
-/// The most bytes of a reply, by the names of the sizes.
-const SIZES: [(&str, usize); 3] = [("1 KB", 1_024), ("16 KB", 16_384), ("64 KB", 65_535)];
 const COLLATION: [u8; 5] = [0x09, 0x04, 0xD0, 0x00, 0x34];
 
 /// The columns of a set and its rows by number.
@@ -46,21 +44,25 @@ pub fn replies() -> Vec<Case> {
     let mut cases = Vec::new();
     for kind in &KINDS {
         for (size, most) in SIZES {
-            let name = format!("{}, {size}", kind.name);
-            cases.push(Case::new(name, "result", move |side| reply(kind, most, side)));
+            let name = format!("reply of {}, {size}", kind.name);
+            let run = move |side, measure| reply(kind, most, side, measure);
+            cases.push(Case::new(name, "result", run));
         }
     }
     cases
 }
 
-fn reply(kind: &Kind, most: usize, side: Side) -> Option<Outcome> {
+fn reply(kind: &Kind, most: usize, side: Side, measure: Measure) -> Option<Outcome> {
     let response = filled(kind, most);
     let script = script(&response);
-    let answer = match side {
-        Side::Ours => ours(&script)?,
-        Side::Rust => counted(|| build(&response)).to_vec(),
+    let (answer, time) = match side {
+        Side::Ours => ours(&script, measure)?,
+        Side::Rust => {
+            let (reply, time) = measure.of(|| build(&response));
+            (reply.to_vec(), time)
+        }
     };
-    Some(Outcome { input: script.len(), answer })
+    Some(Outcome { input: script.len(), answer, time })
 }
 
 fn build(response: &QueryResponse) -> BytesMut {
@@ -130,15 +132,15 @@ fn cell_records(value: &ColumnValue) -> Vec<Record> {
 }
 
 #[cfg(feature = "result")]
-fn ours(script: &[u8]) -> Option<Vec<u8>> {
+fn ours(script: &[u8], measure: Measure) -> Option<(Vec<u8>, f64)> {
     let mut reply = vec![0; 65_535];
-    let length =
-        counted(|| crate::station::station_build_query_results(script, &mut reply)) as usize;
-    reply.truncate(length);
-    Some(reply)
+    let call = || crate::station::station_build_query_results(script, &mut reply);
+    let (length, time) = measure.of(call);
+    reply.truncate(length as usize);
+    Some((reply, time))
 }
 
 #[cfg(not(feature = "result"))]
-fn ours(_: &[u8]) -> Option<Vec<u8>> {
+fn ours(_: &[u8], _: Measure) -> Option<(Vec<u8>, f64)> {
     None
 }
