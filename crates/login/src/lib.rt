@@ -2,8 +2,10 @@
 // what it does not hold is missing.
 use wire::Part;
 ghost use mathlib.Core.Path.{_≡_};
+ghost use mathlib.Core.Bool.{_||_};
 ghost use mathlib.Core.List.{foldl};
 ghost use Prim.Native.Nat.{_≤_, _<_, _+_, _^_, min};
+ghost use lib.Dec.{eqb};
 ghost use lib.ListN.{length, drop};
 ghost use Rattle.wire.specs.Over.{overwrite};
 ghost use Rattle.login.specs.Body.{textAt, featuresAt};
@@ -285,8 +287,29 @@ fn user_agent_after(feature: Feature, held: &[u8], was: Text) -> Text
     Text::At(part)
 }
 
-// The login behind a feature.
+// Whether a feature says something of a login.
+fn counts(id: u8) -> bool
+    ensures { λ r. ⌜ r ≡ (eqb id 0x01 || eqb id 0x02 || eqb id 0x09 || eqb id 0x10) ⌝ }
+{
+    (id == FEATURE_EXT_SESSION_RECOVERY)
+        | (id == FEATURE_EXT_FEDAUTH)
+        | (id == FEATURE_EXT_DATA_CLASSIFICATION)
+        | (id == FEATURE_EXT_USER_AGENT)
+}
+
+// The login behind a feature; most features leave it as it is.
 fn after(body: &[u8], login: Login, feature: Feature) -> Login
+    requires { ⌜ feature .part .start ≤ length (now body) ⌝ }
+    ensures { λ r. ⌜ r ≡ after (now (body .entry)) login feature ⌝ }
+{
+    if !counts(feature.id) {
+        return login;
+    }
+    changed(body, login, feature)
+}
+
+// The login behind a feature, value by value.
+fn changed(body: &[u8], login: Login, feature: Feature) -> Login
     requires { ⌜ feature .part .start ≤ length (now body) ⌝ }
     ensures { λ r. ⌜ r ≡ after (now (body .entry)) login feature ⌝ }
 {

@@ -1,47 +1,24 @@
 -- `login::after` meets its contract. Assumes nothing.
-use Rattle.login.specs.Login.{after}
+use mathlib.Core.Path.{sym, _∙_}
+use borrow.Author.Tests.{not-true}
+use denote.Ref.{now}
+use Rattle.login.proofs.Others.{left-as-it-is}
 use borrow.Author.Needs.{needs}
 use Rattle.login.proofs.after.Statement.{statement}
 use Rattle.login.proofs.after.Tie as tie
 
-part-of-requires : tie.Need-part-of-requires
-part-of-requires c κs = search needs
-
-fedauth-after-requires : tie.Need-fedauth-after-requires
-fedauth-after-requires c κs = search needs
-
-token-after-requires : tie.Need-token-after-requires
-token-after-requires c κs = search needs
-
-library-after-requires : tie.Need-library-after-requires
-library-after-requires c κs = search needs
-
-workflow-after-requires : tie.Need-workflow-after-requires
-workflow-after-requires c κs = search needs
-
-user-agent-after-requires : tie.Need-user-agent-after-requires
-user-agent-after-requires c κs = search needs
-
-version-after-requires : tie.Need-version-after-requires
-version-after-requires c κs = search needs
-
-session-after-requires : tie.Need-session-after-requires
-session-after-requires c κs = search needs
+counts-requires : tie.Need-counts-requires
+counts-requires c κs = search needs
 
 returns : tie.Need-returns
-unfolding after
-returns c = rw (c .before .before .before .before .before .before .fedauth-after .ensures, c .before .before .before .before .before .token-after .ensures, c .before .before .before .before .library-after .ensures, c .before .before .before .workflow-after .ensures, c .before .before .user-agent-after .ensures, c .before .version-after .ensures, c .session-after .ensures, c .before .before .before .before .before .before .before .part-of .ensures)
+returns c = let a = c .before .before .before .args in
+    left-as-it-is (now (a .body)) (a .login) (a .feature) (sym (c .before .counts .ensures) ∙ not-true _ (c .if1 .taken))
+
+changed-requires : tie.Need-changed-requires
+changed-requires c κs = search needs
+
+returns-2 : tie.Need-returns-2
+returns-2 c = c .changed .ensures
 
 pub after-spec : {M : Type 1} → statement M
-after-spec =
-    tie.close
-    (tie.spec
-    part-of-requires
-    fedauth-after-requires
-    token-after-requires
-    library-after-requires
-    workflow-after-requires
-    user-agent-after-requires
-    version-after-requires
-    session-after-requires
-    returns)
+after-spec = tie.close (tie.spec counts-requires returns changed-requires returns-2)
