@@ -120,9 +120,10 @@ fn features(vectors: Vectors) {
     }
 }
 
-/// Short texts, then random ones.
+/// The text of document 01's case 11, short texts, then random ones.
 fn texts(vectors: Vectors, random: &mut Random) -> Vec<Vec<u8>> {
-    let mut texts = short_texts();
+    let mut texts = vec![b"\xE9\0".to_vec()];
+    texts.extend(short_texts());
     texts.extend((0..vectors.count).map(|_| random_argument(random)));
     texts
 }
@@ -252,8 +253,10 @@ fn routes(vectors: Vectors) {
         let mut random = vectors.random(name);
         let mut texts = texts(vectors, &mut random);
         texts.extend(longest(build("", 0).len()));
-        for host in texts {
-            let port = random.pick(&PORTS);
+        // Document 01's case 10 comes first.
+        let first = (b"a\0".to_vec(), 1433);
+        let others = texts.into_iter().map(|host| (host, random.pick(&PORTS))).collect::<Vec<_>>();
+        for (host, port) in std::iter::once(first).chain(others) {
             let reply = argument(&host).and_then(|host| limited(build(&host, port)));
             print_built(&mut random, name, &[packed(&host), port.to_string()], &reply);
         }
