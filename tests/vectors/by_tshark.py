@@ -14,7 +14,8 @@ def shown(packets):
     with tempfile.NamedTemporaryFile(suffix=".pcap") as file:
         file.write(capture(packets))
         file.flush()
-        done = subprocess.run(["tshark", "-r", file.name, "-T", "pdml", "-J", "tds"], capture_output=True, check=True, timeout=120)
+        command = ["tshark", "-r", file.name, "-T", "pdml", "-J", "tds"]
+        done = subprocess.run(command, capture_output=True, check=True, timeout=120)
     tree = xml.etree.ElementTree.fromstring(done.stdout)
     return [set(fields(frame)) for frame in tree.iter("packet")]
 

@@ -1,4 +1,4 @@
-"""The worked examples of MS-TDS in examples.txt: their bytes, the calls that they go to, and what tshark shows of them."""
+"""The worked examples of MS-TDS in examples.txt: their bytes, the calls they go to, and what tshark shows of them."""
 import collections
 import pathlib
 

@@ -2,7 +2,9 @@
 import re
 
 SPARED, LONGEST_PERIOD = 48, 32  # a run spares so many bytes at least; the longest piece that is repeated
-NO_BYTE, NO_PART = "256", "4294967296 0"
+# what a login may lack, and the words for it
+BYTES, NO_BYTE = ("workflow", "classversion"), "256"
+PARTS, NO_PART = ("token", "server", "useragent", "database"), "4294967296 0"
 PLACE = re.compile(r"(\S+) @([0-9]+)\+([0-9]+)")
 FUNCTIONS = {
     "header": "parse_header",
@@ -75,11 +77,11 @@ def of_descriptor(lines):
 
 def of_login(lines):
     held = dict(each.split(" ", 1) for each in lines)
-    numbers = [held["fedauth"], held["library"], *(NO_BYTE if held[name] == "none" else held[name]
-                                                   for name in ("workflow", "classversion")), held["session"]]
-    parts = [NO_PART if held[name] == "none" else held[name] for name in ("token", "server", "useragent", "database")]
+    for name, none in (*((name, NO_BYTE) for name in BYTES), *((name, NO_PART) for name in PARTS)):
+        held[name] = none if held[name] == "none" else held[name]
     count, ids = held["features"].split()
-    return " ".join([*numbers, *parts, count, *(str(each) for each in bytes.fromhex(ids.strip("-")))])
+    names = ("fedauth", "library", *BYTES, "session", *PARTS)
+    return " ".join([*(held[name] for name in names), count, *map(str, bytes.fromhex(ids.strip("-")))])
 
 
 def of_tokens(lines):
@@ -87,7 +89,7 @@ def of_tokens(lines):
 
 
 def token(shown):
-    """A token's words: numbers decimal, a part as start and length; a Max part, which is more than its bytes, is `max`."""
+    """A token's words: numbers decimal, a part as start and length; one that is more than its bytes is a Max part."""
     kind, _, rest = shown.partition(" ")
     places = PLACE.findall(rest)
     numbers = PLACE.sub("", rest).split()
