@@ -170,6 +170,26 @@ fn pairs_of_texts(vectors: Vectors) {
 
 fn infos(vectors: Vectors) {
     let mut random = vectors.random("info");
+    for [message, server, procedure] in info_texts(vectors, &mut random) {
+        let (number, state, severity, line) =
+            (random.number(), random.byte(), random.byte(), random.number());
+        let reply = info_reply((number, state, severity, line), [&message, &server, &procedure]);
+        let arguments = [
+            number.to_string(),
+            state.to_string(),
+            severity.to_string(),
+            packed(&message),
+            packed(&server),
+            packed(&procedure),
+            line.to_string(),
+        ];
+        print_built(&mut random, "build_info_token", &arguments, &reply);
+    }
+}
+
+/// Messages, servers and procedures: each short text in each place, names and tokens at their
+/// borders, all faults at once, random ones.
+fn info_texts(vectors: Vectors, random: &mut Random) -> Vec<[Vec<u8>; 3]> {
     let mut lists: Vec<[Vec<u8>; 3]> = Vec::new();
     for text in short_texts() {
         for place in 0..3 {
@@ -184,25 +204,8 @@ fn infos(vectors: Vectors) {
     lists.push([vec![0x41], vec![0x3D, 0xD8], b"x\0".repeat(256)]);
     let empty = info_reply((0, 0, 0, 0), [&[], &[], &[]]).expect("a short token").len();
     lists.extend(longest(empty).map(|text| [text, Vec::new(), Vec::new()]));
-    for _ in 0..vectors.count {
-        lists.push([(); 3].map(|()| random_argument(&mut random)));
-    }
-    for texts in lists {
-        let (number, state, severity, line) =
-            (random.number(), random.byte(), random.byte(), random.number());
-        let [message, server, procedure] = [&texts[0], &texts[1], &texts[2]];
-        let reply = info_reply((number, state, severity, line), [message, server, procedure]);
-        let arguments = [
-            number.to_string(),
-            state.to_string(),
-            severity.to_string(),
-            packed(message),
-            packed(server),
-            packed(procedure),
-            line.to_string(),
-        ];
-        print_built(&mut random, "build_info_token", &arguments, &reply);
-    }
+    lists.extend((0..vectors.count).map(|_| [(); 3].map(|()| random_argument(random))));
+    lists
 }
 
 fn errors(vectors: Vectors) {
