@@ -1,5 +1,5 @@
-// The builders: `build_NAME LENT ARGUMENT..`, so many bytes of a buffer are lent. The answer is the bytes written, and the
-// rest of the buffer is kept; of a refused call all of it.
+// The builders: `build_NAME LENT ARGUMENT..`, so many bytes of a buffer are lent. The answer is the bytes written, and
+// the rest of the buffer is kept; of a refused call all of it.
 use crate::calls;
 use crate::spaces;
 use crate::told;

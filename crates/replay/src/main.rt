@@ -1,6 +1,6 @@
-// `replay`: calls the proved crates on a list of calls and answers (tests/vectors), which it reads on standard input, and
-// compares. Prints how many lines of each function it replayed, the number of each line that differs, and last
-// `replayed N, D differ`.
+// `replay`: makes the calls of a list (tests/vectors), which it reads on standard input, on the proved crates, and
+// compares the answers. Prints how many lines of each function it replayed, the number of each line that differs, and
+// last `replayed N, D differ`.
 mod builds;
 mod calls;
 mod logins;

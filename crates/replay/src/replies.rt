@@ -5,7 +5,7 @@ use reader::Position;
 use reader::Token;
 use reader::Value;
 
-// No run takes more steps: a token takes a byte or more, a reply has at most 65,535, and then comes the end or a refusal.
+// No run takes more steps: a token takes a byte or more, a reply has at most 65,535, and then come end or refusal.
 const MOST_STEPS: usize = 65536;
 
 // The words of each token, then `end` or a refusal.

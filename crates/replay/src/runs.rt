@@ -4,8 +4,8 @@ use crate::words;
 use libc::STDOUT_FILENO;
 use wire::Part;
 
-// Where a run stands: the place of the next line, the number of the last one, the function whose lines are being counted
-// (its name as a part of the list) and how many there were, how many lines in all, and how many of them differ.
+// Where a run stands: the place of the next line, the number of the last one, the function whose lines are being
+// counted (its name as a part of the list) and how many there were, how many lines in all, and how many differ.
 pub(crate) struct Run {
     at: usize,
     line: u64,

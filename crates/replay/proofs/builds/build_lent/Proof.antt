@@ -11,7 +11,9 @@ slice-relend-prefix-build : tie.Need-slice-relend-prefix-build
 slice-relend-prefix-build c = search needs
 
 slice-aggregate-build : tie.Need-slice-aggregate-build
-slice-aggregate-build c = let a = c .before .before .before .before .before .args in sym (length-take-le (a .lent) (now (a .buf)) (omega arith))
+slice-aggregate-build c =
+    let a = c .before .before .before .before .before .args in
+    sym (length-take-le (a .lent) (now (a .buf)) (omega arith))
 
 build-requires : tie.Need-build-requires
 build-requires c κs = search needs

@@ -1,5 +1,5 @@
--- `replay::calls::is_kept` is safe and ends. The loop's invariant: the place is not before the first one. The measure is what is left of the buffer.
--- Assumes nothing.
+-- `replay::calls::is_kept` is safe and ends. The loop's invariant: the place is not before the first one.
+-- The measure is what is left of the buffer. Assumes nothing.
 use Prim.Native.Nat.{_-_, _≤_}
 use lib.ListN.{length}
 use borrow.Author.Needs.{needs}

@@ -11,7 +11,9 @@ slice-relend-prefix-parse-login7 : tie.Need-slice-relend-prefix-parse-login7
 slice-relend-prefix-parse-login7 c = search needs
 
 slice-aggregate-parse-login7 : tie.Need-slice-aggregate-parse-login7
-slice-aggregate-parse-login7 c = let a = c .before .before .before .before .args in sym (length-take-le (a .lent) (now (a .ids)) (omega arith))
+slice-aggregate-parse-login7 c =
+    let a = c .before .before .before .before .args in
+    sym (length-take-le (a .lent) (now (a .ids)) (omega arith))
 
 parse-login7-requires : tie.Need-parse-login7-requires
 parse-login7-requires c κs = search needs

@@ -1,5 +1,5 @@
--- `replay::logins::tell_ids` is safe and ends. The loop's invariant: the lent buffer keeps its length. The measure is what is left of the ids.
--- Assumes nothing.
+-- `replay::logins::tell_ids` is safe and ends. The loop's invariant: the lent buffer keeps its length.
+-- The measure is what is left of the ids. Assumes nothing.
 use Prim.Native.Nat.{_-_}
 use mathlib.Core.Path.{_≡_}
 use lib.ListN.{length}

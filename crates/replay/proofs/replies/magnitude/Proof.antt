@@ -1,4 +1,5 @@
--- `replay::replies::magnitude` is safe: each step to a magnitude is defined, by the laws of the kit's `std::num`. Assumes nothing.
+-- `replay::replies::magnitude` is safe: each step to a magnitude is defined, by the laws of the kit's `std::num`.
+-- Assumes nothing.
 use lib.Dec.{lit≤}
 use mir.Syntax.{w64}
 use Rattle.std.proofs.num.Nearest.{Plain, Turned, plain, turn}

@@ -1,5 +1,5 @@
--- `replay::replies::tokens` is safe and ends. The loop's invariant: the lent buffer keeps its length. The measure is the number of steps that are left.
--- Assumes nothing.
+-- `replay::replies::tokens` is safe and ends. The loop's invariant: the lent buffer keeps its length.
+-- The measure is the number of steps that are left. Assumes nothing.
 use mathlib.Core.Path.{_≡_}
 use lib.ListN.{length}
 use borrow.Author.Needs.{needs}

@@ -1,5 +1,5 @@
--- `replay::runs::over` is safe and ends. The loop's invariant: no more turns are left than the list has bytes. The measure is the number of turns that are left.
--- Assumes nothing.
+-- `replay::runs::over` is safe and ends. The loop's invariant: no more turns are left than the list has bytes.
+-- The measure is the number of turns that are left. Assumes nothing.
 use Prim.Native.Nat.{_≤_}
 use lib.ListN.{length}
 use borrow.Author.Needs.{needs}

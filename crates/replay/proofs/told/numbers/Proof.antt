@@ -1,5 +1,5 @@
--- `replay::told::numbers` is safe and ends. The loop's invariant: the lent buffer keeps its length. The measure is what is left of the values.
--- Assumes nothing.
+-- `replay::told::numbers` is safe and ends. The loop's invariant: the lent buffer keeps its length.
+-- The measure is what is left of the values. Assumes nothing.
 use Prim.Native.Nat.{_-_}
 use mathlib.Core.Path.{_≡_}
 use lib.ListN.{length}

@@ -1,5 +1,5 @@
--- `replay::words::bytes` is safe and ends. The loop's invariant: the lent buffer keeps its length. The measure is the number of turns that are left.
--- Assumes nothing.
+-- `replay::words::bytes` is safe and ends. The loop's invariant: the lent buffer keeps its length.
+-- The measure is the number of turns that are left. Assumes nothing.
 use mathlib.Core.Path.{_≡_}
 use lib.ListN.{length}
 use borrow.Author.Needs.{needs}

@@ -1,5 +1,5 @@
--- `replay::words::number` is safe and ends. The loop's invariant: no more digits were passed than there are. The measure is what is left of them.
--- Assumes nothing.
+-- `replay::words::number` is safe and ends. The loop's invariant: no more digits were passed than there are.
+-- The measure is what is left of them. Assumes nothing.
 use Prim.Native.Nat.{_-_, _≤_}
 use lib.ListN.{length}
 use borrow.Author.Needs.{needs}

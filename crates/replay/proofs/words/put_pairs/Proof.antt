@@ -1,5 +1,5 @@
--- `replay::words::put_pairs` is safe and ends. The loop's invariant: the lent buffer keeps its length. The measure is what is left of the digits.
--- Assumes nothing.
+-- `replay::words::put_pairs` is safe and ends. The loop's invariant: the lent buffer keeps its length.
+-- The measure is what is left of the digits. Assumes nothing.
 use Prim.Native.Nat.{_-_}
 use mathlib.Core.Path.{_≡_}
 use lib.ListN.{length}

@@ -1,5 +1,5 @@
--- `replay::words::put_times` is safe and ends. The loop's invariant: the lent buffer keeps its length. The measure is how often the digits are still to be put.
--- Assumes nothing.
+-- `replay::words::put_times` is safe and ends. The loop's invariant: the lent buffer keeps its length.
+-- The measure is how often the digits are still to be put. Assumes nothing.
 use mathlib.Core.Path.{_≡_}
 use lib.ListN.{length}
 use borrow.Author.Needs.{needs}

@@ -1,5 +1,5 @@
--- `replay::words::span` is safe and ends. The loop's invariant: no more bytes were passed than stand from the place on. The measure is what is left of them.
--- Assumes nothing.
+-- `replay::words::span` is safe and ends. The loop's invariant: no more bytes were passed than stand from the place on.
+-- The measure is what is left of them. Assumes nothing.
 use Prim.Native.Nat.{_-_, _≤_}
 use lib.ListN.{length}
 use borrow.Author.Needs.{needs}

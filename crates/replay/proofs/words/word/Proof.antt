@@ -1,5 +1,5 @@
--- `replay::words::word` is safe and ends. The loop's invariant: no more words are left than are to be passed. The measure is the number of words that are left.
--- Assumes nothing.
+-- `replay::words::word` is safe and ends. The loop's invariant: no more words are left than are to be passed.
+-- The measure is the number of words that are left. Assumes nothing.
 use Prim.Native.Nat.{_≤_}
 use borrow.Author.Needs.{needs}
 use Rattle.replay.proofs.words.word.Statement.{statement}
