@@ -1,7 +1,8 @@
 //! Compares the static library `station` with the Rust modules it is a port of.
 //!
 //! `oracle [quick|large] [GROUP ..] [seed=N] [trace]` compares; `oracle vectors N [seed=N]`
-//! prints what the Rust answers, `oracle tokens N [seed=N]` what scripts emit.
+//! prints calls and what the Rust answers, `oracle answers` what it answers to calls on standard
+//! input, `oracle tokens N [seed=N]` what scripts emit.
 
 // Where a group is not built in, what only it uses is left over.
 #![cfg_attr(
@@ -41,6 +42,7 @@ use std::time::Instant;
 const USAGE: &str = "\
 oracle [quick|large] [header|text|request|login|result|response ..] [seed=N] [trace]
 oracle vectors N [seed=N]
+oracle answers
 oracle tokens N [seed=N]";
 const SEED: u64 = 20_260_101;
 
@@ -53,6 +55,7 @@ fn main() -> ExitCode {
     let done = match (seed, words.as_slice()) {
         (None, _) => None,
         (Some(seed), ["vectors", count]) => printed(count, |count| vectors::print(seed, count)),
+        (Some(_), ["answers"]) => vectors::answer().then_some(ExitCode::SUCCESS),
         (Some(seed), ["tokens", count]) => printed(count, |count| tokens::print(seed, count)),
         (Some(seed), words) => {
             chosen(words).map(|(large, groups)| compare(Size { large, seed }, &groups))

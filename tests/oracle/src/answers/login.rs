@@ -7,6 +7,13 @@ use super::Part;
 use crate::protocol::{self, FEATURE_EXT_FEDAUTH, FEATURE_EXT_TERMINATOR, FEATURE_EXT_USER_AGENT};
 use crate::utf16;
 
+/// The slots of a login: five numbers and four parts.
+pub const SLOTS: usize = 13;
+/// Workflow or classification version where there is none.
+const NO_BYTE: u64 = 256;
+/// The start of a part where there is none.
+const NO_START: u64 = 1 << 32;
+
 pub struct Login {
     pub fedauth: bool,
     pub library: u8,
@@ -18,6 +25,24 @@ pub struct Login {
     pub user_agent: Option<Part>,
     pub database: Option<Part>,
     pub features: Vec<u8>,
+}
+
+impl Login {
+    /// The slots that the library fills for the login.
+    pub fn slots(&self) -> Vec<u64> {
+        let byte = |byte: Option<u8>| byte.map_or(NO_BYTE, u64::from);
+        let mut slots = vec![
+            self.fedauth.into(),
+            self.library.into(),
+            byte(self.workflow),
+            byte(self.class_version),
+            self.session.into(),
+        ];
+        for part in [self.token, self.server, self.user_agent, self.database] {
+            slots.extend(part.map_or([NO_START, 0], Part::slots));
+        }
+        slots
+    }
 }
 
 pub fn login(body: &[u8]) -> Login {

@@ -4,6 +4,8 @@ pub mod header;
 pub mod login;
 pub mod reply;
 pub mod request;
+pub mod response;
+pub mod text;
 
 /// A part of the input: start and length in bytes.
 #[derive(Clone, Copy, Debug, PartialEq, Eq)]

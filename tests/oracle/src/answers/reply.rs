@@ -43,6 +43,22 @@ pub fn rust_packet(script: &Script) -> BytesMut {
     )
 }
 
+/// The packet by the Rust's narrowings, of a script that holds no more than they take: one set, and
+/// nothing else, trailing infos, or those and a classification.
+pub fn narrow(script: &Script) -> Answer<Vec<u8>> {
+    limited(protocol::build_query_result(&response(&script.sets[0])))
+}
+
+pub fn trailing(script: &Script) -> Answer<Vec<u8>> {
+    let infos = infos(&script.trailing);
+    limited(protocol::build_query_result_with_trailing_info(&response(&script.sets[0]), &infos))
+}
+
+pub fn extras(script: &Script) -> Answer<Vec<u8>> {
+    let (set, infos) = (&script.sets[0], infos(&script.trailing));
+    limited(protocol::build_query_result_with_extras(&response(set), &set.classification, &infos))
+}
+
 /// The bytes, if they are not too many.
 pub fn limited(bytes: impl AsRef<[u8]>) -> Answer<Vec<u8>> {
     let bytes = bytes.as_ref();

@@ -2,7 +2,7 @@
 
 use super::Size;
 use crate::answers::Part;
-use crate::answers::login::{Login, login as rust_login};
+use crate::answers::login::{Login, SLOTS, login as rust_login};
 use crate::compare::{Check, Expected};
 use crate::hex::hex;
 use crate::inputs::login::{Feature, login, random_login, scattered_login, token_data};
@@ -10,13 +10,6 @@ use crate::random::Random;
 use crate::refusal::SHORT_BUFFER;
 use crate::station::{station_database, station_parse_login7};
 use crate::utf16;
-
-/// The slots of a login: five numbers and four parts.
-const SLOTS: usize = 13;
-/// Workflow or classification version where there is none.
-const NO_BYTE: u64 = 256;
-/// The start of a part where there is none.
-const NO_START: u64 = 1 << 32;
 
 struct Logins {
     login: Check,
@@ -51,7 +44,7 @@ impl Logins {
     /// Ids and slots: exactly enough, more, and too few of either or both.
     fn login(&mut self, body: &[u8], login: &Login) {
         let ids = login.features.len();
-        let slots = slots(login);
+        let slots = login.slots();
         let whole = Expected { code: ids as i64, bytes: &login.features, slots: &slots };
         let short = Expected::refused(SHORT_BUFFER);
         let fewer = body.len() % SLOTS;
@@ -159,22 +152,6 @@ impl Logins {
             }
         }
     }
-}
-
-/// The slots that the library fills for the login.
-fn slots(login: &Login) -> Vec<u64> {
-    let byte = |byte: Option<u8>| byte.map_or(NO_BYTE, u64::from);
-    let mut slots = vec![
-        login.fedauth.into(),
-        login.library.into(),
-        byte(login.workflow),
-        byte(login.class_version),
-        login.session.into(),
-    ];
-    for part in [login.token, login.server, login.user_agent, login.database] {
-        slots.extend(part.map_or([NO_START, 0], Part::slots));
-    }
-    slots
 }
 
 /// Each feature at its borders.

@@ -2,17 +2,17 @@
 
 use super::Size;
 use crate::answers::reply::{LONGEST_RESULT, limited};
+use crate::answers::response::*;
 use crate::compare::{Check, Expected};
 use crate::hex::hex;
 use crate::inputs::damaged;
+use crate::inputs::response::*;
 use crate::protocol::*;
-use crate::query_response::{InfoMessage, LeadingError, TerminalError};
 use crate::random::Random;
 use crate::refusal::*;
 use crate::script::LONGEST_NAME;
 use crate::script::records::{self, DATABASE_ROUTE, FEATURE, PLAIN_ROUTE, Record};
 use crate::station::*;
-use crate::utf16;
 use bytes::BytesMut;
 
 pub fn compare(size: Size) -> Vec<Check> {
@@ -29,14 +29,6 @@ pub fn compare(size: Size) -> Vec<Check> {
     .into_iter()
     .flatten()
     .collect()
-}
-
-/// A text argument: 21 where it is odd, 22 where it is not UTF-16.
-fn argument(bytes: &[u8]) -> Answer<String> {
-    if !bytes.len().is_multiple_of(2) {
-        return Err(ODD_ARGUMENT);
-    }
-    utf16::text(bytes).ok_or(ARGUMENT_NOT_UTF16)
 }
 
 // Replies of no argument, or of truth values.
@@ -174,10 +166,7 @@ fn dones(size: Size) -> Vec<Check> {
 fn feature_lists(size: Size) -> Vec<Check> {
     let mut check = Check::new("station_build_feature_ext_ack");
     let mut random = size.random("features");
-    for list in lists(&mut random, size, FEATURE, |random| {
-        let count = random.within(0, 9);
-        Record::new(FEATURE, random.bytes(1 + count))
-    }) {
+    for list in lists(&mut random, size, FEATURE, random_feature) {
         feature_list(&mut check, &list);
     }
     for id in 0..=0xFF {
@@ -194,20 +183,6 @@ fn feature_lists(size: Size) -> Vec<Check> {
 fn feature_list(check: &mut Check, list: &[u8]) {
     let reply = features_of(list).and_then(|features| limited(build_feature_ext_ack(&features)));
     check.buffer(|| hex(list), &reply, |buffer| station_build_feature_ext_ack(list, buffer));
-}
-
-fn features_of(mut list: &[u8]) -> Answer<Vec<(u8, Vec<u8>)>> {
-    let mut features = Vec::new();
-    while !list.is_empty() {
-        let (kind, payload, rest) = records::first(list)?;
-        if kind != FEATURE {
-            return Err(KIND);
-        }
-        let (id, data) = payload.split_first().ok_or(SHAPE)?;
-        features.push((*id, data.to_vec()));
-        list = rest;
-    }
-    Ok(features)
 }
 
 /// Lists of no record to five, cut at every byte, with wrong kinds and shapes, and damaged.
@@ -311,45 +286,6 @@ fn text_lists(
     lists
 }
 
-/// Empty, one unit, one and three bytes, pairs whole, cut and turned round.
-fn short_texts() -> Vec<Vec<u8>> {
-    [
-        &b""[..],
-        b"a\0",
-        b"a",
-        b"a\0b",
-        &[0x3D, 0xD8],
-        &[0x00, 0xDE],
-        &[0x3D, 0xD8, 0x00, 0xDE],
-        &[0x00, 0xDE, 0x3D, 0xD8],
-        &[0x3D, 0xD8, 0x00],
-        &[0xE9, 0x00, 0xAC, 0x20],
-    ]
-    .map(<[u8]>::to_vec)
-    .to_vec()
-}
-
-/// Texts of so many units: of characters of one to four bytes in UTF-8, ill-formed and odd.
-fn long_texts(units: usize) -> Vec<Vec<u8>> {
-    let of = |unit: u16| unit.to_le_bytes().repeat(units);
-    let mut pairs = utf16::bytes(&[0xD83D, 0xDE00]).repeat(units / 2);
-    pairs.extend(b"a\0".repeat(units % 2));
-    let mut odd = of(0x41);
-    odd.push(0);
-    vec![of(0x41), of(0xE9), of(0x20AC), of(0xD83D), pairs, odd]
-}
-
-fn random_argument(random: &mut Random) -> Vec<u8> {
-    let count = random.within(0, 12);
-    let text = utf16::random_text(random, count);
-    let text = if random.one_in(10) { utf16::spoiled(random, &text) } else { text };
-    let mut bytes = utf16::bytes(&text);
-    if random.one_in(12) {
-        bytes.push(random.byte());
-    }
-    bytes
-}
-
 // Info tokens.
 
 fn infos(size: Size) -> Vec<Check> {
@@ -389,25 +325,6 @@ fn info(check: &mut Check, numbers: (u32, u8, u8, u32), texts: [&[u8]; 3]) {
     });
 }
 
-fn info_reply(
-    numbers: (u32, u8, u8, u32),
-    [message, server, procedure]: [&[u8]; 3],
-) -> Answer<Vec<u8>> {
-    let texts = [argument(message)?, argument(server)?, argument(procedure)?];
-    if server.len().max(procedure.len()) > 2 * LONGEST_NAME {
-        return Err(LONG_NAME);
-    }
-    limited(build_info_token(&info_message(numbers, texts)))
-}
-
-fn info_message(
-    numbers: (u32, u8, u8, u32),
-    [message, server_name, proc_name]: [String; 3],
-) -> InfoMessage {
-    let (number, state, severity, line_number) = numbers;
-    InfoMessage { number, state, severity, message, server_name, proc_name, line_number }
-}
-
 // Errors.
 
 fn errors(size: Size) -> Vec<Check> {
@@ -437,17 +354,7 @@ fn errors(size: Size) -> Vec<Check> {
     vec![leading, terminal, response]
 }
 
-/// The tokens of a leading and of a terminal error.
-fn error_tokens(number: u32, severity: u8, text: &str) -> (BytesMut, BytesMut) {
-    (
-        build_leading_error_tokens(&LeadingError::new(number, severity, text)),
-        build_terminal_error_tokens(&TerminalError::new(number, severity, text)),
-    )
-}
-
 // Routing.
-
-const PORTS: [u16; 6] = [0, 1, 1433, 0x7FFF, 0x8000, 0xFFFF];
 
 fn routes(size: Size) -> Vec<Check> {
     let mut token = Check::new("station_build_routing_envchange_token");
@@ -483,19 +390,6 @@ fn routes(size: Size) -> Vec<Check> {
     vec![token, response, enhanced]
 }
 
-/// No acknowledgement.
-const NO_ACK: u16 = 256;
-
-/// The arguments of a routing login response but for the list of routes.
-#[derive(Clone, Copy)]
-struct Routing<'a> {
-    host: &'a [u8],
-    port: u16,
-    login_ack: bool,
-    ack: Option<u8>,
-    ack_before: bool,
-}
-
 fn route_lists(size: Size) -> Vec<Check> {
     let mut check = Check::new("station_build_routing_login_response");
     let mut random = size.random("routes");
@@ -507,23 +401,6 @@ fn route_lists(size: Size) -> Vec<Check> {
     every_routing(&mut check);
     long_route_lists(&mut check);
     vec![check]
-}
-
-fn random_route(random: &mut Random) -> Record {
-    if random.one_in(3) {
-        return Record::new(PLAIN_ROUTE, []);
-    }
-    Record::new(DATABASE_ROUTE, random_argument(random))
-}
-
-fn random_routing<'a>(random: &mut Random, host: &'a [u8]) -> Routing<'a> {
-    Routing {
-        host,
-        port: random.pick(&PORTS),
-        login_ack: random.one_in(2),
-        ack: random.one_in(2).then(|| random.byte()),
-        ack_before: random.one_in(2),
-    }
 }
 
 /// Every short host, acknowledgement and order, with no route, a plain one, one to a database,
@@ -588,29 +465,4 @@ fn route_list(check: &mut Check, routing: Routing, list: &[u8]) {
         let ack = ack.map_or(NO_ACK, u16::from);
         station_build_routing_login_response(host, port, list, login_ack, ack, ack_before, buffer)
     });
-}
-
-fn routing_reply(routing: Routing, list: &[u8]) -> Answer<Vec<u8>> {
-    let Routing { host, port, login_ack, ack, ack_before } = routing;
-    let host = argument(host)?;
-    let routes = routes_of(list)?;
-    let routes: Vec<Option<&str>> = routes.iter().map(Option::as_deref).collect();
-    limited(build_routing_login_response(&host, port, &routes, login_ack, ack, ack_before))
-}
-
-fn routes_of(mut list: &[u8]) -> Answer<Vec<Option<String>>> {
-    let mut routes = Vec::new();
-    while !list.is_empty() {
-        let (kind, payload, rest) = records::first(list)?;
-        routes.push(match kind {
-            PLAIN_ROUTE if payload.is_empty() => None,
-            DATABASE_ROUTE if payload.len().is_multiple_of(2) => {
-                Some(utf16::text(payload).ok_or(RECORD_NOT_UTF16)?)
-            }
-            PLAIN_ROUTE | DATABASE_ROUTE => return Err(SHAPE),
-            _ => return Err(KIND),
-        });
-        list = rest;
-    }
-    Ok(routes)
 }

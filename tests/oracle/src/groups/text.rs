@@ -1,15 +1,12 @@
 //! UTF-16LE: well-formed or not, counts, white space.
 
 use super::Size;
+use crate::answers::text::{COUNTS, counts, is_whitespace};
 use crate::compare::Check;
 use crate::hex::hex;
-use crate::random::Random;
-use crate::refusal::{ARGUMENT_NOT_UTF16, Answer, ODD_ARGUMENT};
+use crate::inputs::text::random_bytes;
 use crate::station::{station_is_whitespace, station_text};
 use crate::utf16;
-
-/// Units, characters, length in UTF-8, and whether a surrogate pair stands in the text.
-const COUNTS: usize = 4;
 
 pub fn compare(size: Size) -> Vec<Check> {
     vec![white_space(), texts(size)]
@@ -18,8 +15,8 @@ pub fn compare(size: Size) -> Vec<Check> {
 fn white_space() -> Check {
     let mut check = Check::new("station_is_whitespace");
     for unit in 0..=u16::MAX {
-        let blank = char::from_u32(unit.into()).is_some_and(char::is_whitespace);
-        check.number(|| format!("{unit:04X}"), Ok(blank.into()), || station_is_whitespace(unit));
+        let blank = is_whitespace(unit).into();
+        check.number(|| format!("{unit:04X}"), Ok(blank), || station_is_whitespace(unit));
     }
     check
 }
@@ -73,29 +70,7 @@ fn texts_of_border_units(check: &mut Check) {
     }
 }
 
-fn random_bytes(random: &mut Random, most: usize) -> Vec<u8> {
-    let count = random.within(0, most);
-    let text = utf16::random_text(random, count);
-    let mut bytes = match random.below(3) {
-        0 => utf16::bytes(&utf16::spoiled(random, &text)),
-        _ => utf16::bytes(&text),
-    };
-    if random.one_in(6) {
-        bytes.push(random.byte());
-    }
-    bytes
-}
-
 fn compare_text(check: &mut Check, bytes: &[u8]) {
-    check.slots(|| hex(bytes), &counts(bytes), COUNTS, |out| station_text(bytes, out));
-}
-
-fn counts(bytes: &[u8]) -> Answer<(i64, Vec<u64>)> {
-    if !bytes.len().is_multiple_of(2) {
-        return Err(ODD_ARGUMENT);
-    }
-    let text = utf16::text(bytes).ok_or(ARGUMENT_NOT_UTF16)?;
-    let pair = text.chars().any(|character| character.len_utf16() == 2);
-    let counts = [text.encode_utf16().count(), text.chars().count(), text.len(), pair.into()];
-    Ok((0, counts.map(|count| count as u64).to_vec()))
+    let answer = counts(bytes).map(|counts| (0, counts.to_vec()));
+    check.slots(|| hex(bytes), &answer, COUNTS, |out| station_text(bytes, out));
 }

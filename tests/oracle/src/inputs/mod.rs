@@ -3,7 +3,9 @@
 pub mod header;
 pub mod login;
 pub mod request;
+pub mod response;
 pub mod script;
+pub mod text;
 
 use crate::random::Random;
 

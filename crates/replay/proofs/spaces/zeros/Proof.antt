@@ -1,0 +1,12 @@
+-- `replay::spaces::zeros` meets its contract, by the law of a repeat's length: nothing is counted. Assumes nothing.
+use Prim.Native.Nat.{ℕ}
+use mathlib.Core.Path.{sym}
+use lib.ListN.{length-replicate}
+use Rattle.replay.proofs.spaces.zeros.Statement.{statement}
+use Rattle.replay.proofs.spaces.zeros.Tie as tie
+
+returns : tie.Need-returns
+returns c = sym (length-replicate {0} {A = ℕ} 131072 0)
+
+pub zeros-spec : {M : Type 1} → statement M
+zeros-spec = tie.close (tie.spec returns)

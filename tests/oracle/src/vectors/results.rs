@@ -1,0 +1,164 @@
+//! Scripts: the reply builder under its four names, the room estimate, the fit check.
+
+use super::{Vectors, print_built, print_read};
+use crate::answers::reply::{accepted, extras, narrow, packet, reply, trailing};
+use crate::hex::{packed, unhex};
+use crate::inputs::script::{SMALL, Shape, damaged, of_shape, random_script};
+use crate::random::Random;
+use crate::refusal::Answer;
+use crate::script::Script;
+use crate::script::fit::{Misfit, misfits};
+use crate::script::records::*;
+
+const COLLATION: [u8; 5] = [0x09, 0x04, 0xD0, 0x00, 0x34];
+
+type Build = fn(&Script) -> Answer<Vec<u8>>;
+/// Whether a narrowing of the Rust takes all that the script holds.
+type Takes = fn(&Script) -> bool;
+
+pub fn print(vectors: Vectors) {
+    let builders: [(&str, Build, Takes); 4] = [
+        ("build_query_results", packet, |_| true),
+        ("build_query_result", narrow, |script| is_bare(script) && script.trailing.is_empty()),
+        ("build_query_result_with_trailing_info", trailing, is_bare),
+        ("build_query_result_with_extras", extras, |script| script.sets.len() == 1),
+    ];
+    for (name, build, takes) in builders {
+        replies(vectors, name, build, takes);
+    }
+    for script in vectors.inputs("room", cases(), any_script) {
+        print_read("room", &script, reply(&script).map(|reply| reply.len()));
+    }
+    for script in vectors.inputs("fit", cases(), any_script) {
+        let fit = accepted(&script).and_then(|script| Ok((packet(&script)?, misfits(&script))));
+        print_read("fit", &script, fit.map(|(_, misfits)| fit_words(&misfits)));
+    }
+}
+
+fn is_bare(script: &Script) -> bool {
+    script.sets.len() == 1 && script.sets[0].classification.is_empty()
+}
+
+fn replies(vectors: Vectors, name: &str, build: Build, takes: Takes) {
+    let mut random = vectors.random(name);
+    let taken = |script: &[u8]| accepted(script).map_or(true, |script| takes(&script));
+    let cases = cases().into_iter().filter(|script| taken(script)).collect();
+    let random_input = |random: &mut Random| {
+        std::iter::repeat_with(|| any_script(random)).find(|script| taken(script)).unwrap()
+    };
+    for script in vectors.inputs(name, cases, random_input) {
+        let reply = accepted(&script).and_then(|script| build(&script));
+        print_built(&mut random, name, &[packed(&script)], &reply);
+    }
+}
+
+/// Every misfit of a script, any of which may be named; `fits` where there is none.
+fn fit_words(misfits: &[Misfit]) -> String {
+    let named = |[kind, set, row, column]: &Misfit| match kind {
+        1 => format!("class {set}"),
+        2 => format!("column {set} {column}"),
+        _ => format!("cell {set} {row} {column}"),
+    };
+    let named: Vec<String> = misfits.iter().map(named).collect();
+    if named.is_empty() { "fits".to_string() } else { named.join(",") }
+}
+
+fn any_script(random: &mut Random) -> Vec<u8> {
+    let script = match random.below(4) {
+        0 => random_script(random),
+        1 => of_shape(random, Shape { sets: 1, ..SMALL }),
+        _ => of_shape(random, Shape { fits: true, ..SMALL }),
+    };
+    if random.one_in(3) { damaged(random, &script) } else { written(&script) }
+}
+
+/// The cases of document 01 and of its readings, and a script at each border.
+fn cases() -> Vec<Vec<u8>> {
+    let digits = [
+        "",
+        "01",
+        "0000000001",
+        "010000006300",
+        "FFFFFFFF0100",
+        "000000000201",
+        "000000000100",
+        "0000000001000800000002000300000000006E000000000004000500000005000307000000",
+        "000000000100000000000100",
+        "000000000100000000000500",
+        "00000000010001000000040000",
+    ];
+    let mut cases: Vec<Vec<u8>> = digits.iter().map(|digits| unhex(digits)).collect();
+    cases.extend(orders().iter().chain(&texts()).chain(&borders()).map(|case| written(case)));
+    cases
+}
+
+/// Records out of order, and errors that drop or do not drop what follows.
+fn orders() -> Vec<Vec<Record>> {
+    let (leading, terminal) = (error(LEADING, 1, 2, b"l\0"), error(TERMINAL, 3, 4, b"t\0"));
+    let empty = [row(), cell(9, &[]), chunk(&[])];
+    let long = column(1, COLLATION, &b"n\0".repeat(256));
+    let int = cell(3, &[0xFF; 4]);
+    let behind_a_set = [
+        vec![row(), int.clone(), chunk(&[1, 2])],
+        vec![row(), cell(9, &[]), row(), chunk(&[1, 2])],
+        vec![int],
+        vec![terminal.clone(), leading.clone()],
+        vec![leading.clone(), leading.clone()],
+        vec![terminal.clone(), terminal.clone()],
+        vec![row(), info(INFO, &[], &[], &[])],
+        vec![info(TRAILING, &[], &[], &[]), set(&[])],
+        vec![leading.clone(), terminal.clone()],
+        vec![leading.clone(), set(&[]), leading],
+        vec![set(&[]), terminal.clone()],
+        [&[terminal.clone()], &empty[..], &[set(&[]), long.clone()]].concat(),
+        [&empty[..], &[set(&[]), long.clone()]].concat(),
+        [&[long, set(&[])], &empty[..]].concat(),
+        vec![terminal, info(TRAILING, &[], &b"s\0".repeat(256), &[])],
+        vec![info(TRAILING, b"m\0", b"s\0", b"p\0")],
+        vec![row(), cell(10, &[])],
+    ];
+    behind_a_set.iter().map(|records| [&[set(&[])], &records[..]].concat()).collect()
+}
+
+fn texts() -> Vec<Vec<Record>> {
+    let (high, low) = (&[0x3D, 0xD8][..], &[0x00, 0xDE][..]);
+    let pairs = |count| column(5, COLLATION, &[high, low].concat().repeat(count));
+    vec![
+        vec![set(&[0xA3, 0])],
+        vec![set(&[]), info(INFO, high, low, &[])],
+        vec![set(&[]), row(), cell(6, &[]), chunk(&[1])],
+        vec![set(&[]), row(), cell(5, &[0x3D, 0xD8, 0])],
+        vec![set(&[]), row(), cell(6, &[]), chunk(high)],
+        vec![set(&[]), pairs(1)],
+        vec![set(&[]), pairs(127)],
+        vec![set(&[]), pairs(128)],
+        vec![set(&[]), column(2, COLLATION, b"n\0"), row(), cell(2, &[0, 0x80])],
+        vec![set(&[]), column(5, COLLATION, b"n\0"), row(), cell(5, &b"x\0".repeat(4_000))],
+        vec![set(&[]), column(5, COLLATION, b"n\0"), row(), cell(5, &b"x\0".repeat(4_001))],
+    ]
+}
+
+/// Case 12: names of 255 and 256 units, 128 and 129 columns, replies of 65,535 bytes and around.
+fn borders() -> Vec<Vec<Record>> {
+    let text = |units| b"e\0".repeat(units);
+    let one = |record: Record| vec![set(&[]), record];
+    let columns = |count| [vec![set(&[])], vec![column(1, COLLATION, &[]); count]].concat();
+    let binary = |bytes: usize| {
+        let head = [set(&[]), column(8, COLLATION, &[]), row(), cell(9, &[])];
+        [&head[..], &[chunk(&vec![7; bytes])]].concat()
+    };
+    let besides = reply(&written(&binary(1))).expect("a short reply").len() - 1;
+    vec![
+        one(error(TERMINAL, 1, 2, &text(32_748))),
+        one(error(TERMINAL, 1, 2, &text(32_749))),
+        one(column(1, COLLATION, &text(255))),
+        one(column(1, COLLATION, &text(256))),
+        one(info(INFO, &[], &text(255), &text(255))),
+        one(info(INFO, &[], &text(255), &text(256))),
+        one(info(TRAILING, &[], &text(256), &[])),
+        columns(128),
+        columns(129),
+        binary(65_535 - besides),
+        binary(65_536 - besides),
+    ]
+}
