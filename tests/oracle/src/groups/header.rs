@@ -39,7 +39,7 @@ fn every_pair_of_bytes(check: &mut Check) {
     }
 }
 
-fn compare_header(check: &mut Check, bytes: &[u8]) {
+pub fn compare_header(check: &mut Check, bytes: &[u8]) {
     let answer = header(bytes).map(|header| (0, header.fields.to_vec()));
     check.slots(|| hex(bytes), &answer, FIELDS, |out| station_parse_header(bytes, out));
 }

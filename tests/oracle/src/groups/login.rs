@@ -18,16 +18,13 @@ const NO_BYTE: u64 = 256;
 /// The start of a part where there is none.
 const NO_START: u64 = 1 << 32;
 
-struct Logins {
+pub struct Logins {
     login: Check,
     database: Check,
 }
 
 pub fn compare(size: Size) -> Vec<Check> {
-    let mut logins = Logins {
-        login: Check::new("station_parse_login7"),
-        database: Check::new("station_database"),
-    };
+    let mut logins = Logins::new();
     let mut random = size.random("login");
     logins.every_length(&mut random, size.count(100, 2_000));
     logins.cut_everywhere();
@@ -38,11 +35,19 @@ pub fn compare(size: Size) -> Vec<Check> {
         let length = random.within(50, 160);
         logins.compare(&scattered_login(&mut random, length));
     }
-    vec![logins.login, logins.database]
+    logins.checks()
 }
 
 impl Logins {
-    fn compare(&mut self, body: &[u8]) {
+    pub fn new() -> Self {
+        Self { login: Check::new("station_parse_login7"), database: Check::new("station_database") }
+    }
+
+    pub fn checks(self) -> Vec<Check> {
+        vec![self.login, self.database]
+    }
+
+    pub fn compare(&mut self, body: &[u8]) {
         let login = rust_login(body);
         self.login(body, &login);
         self.database(body, login.database);

@@ -20,29 +20,14 @@ const SPARE_ROOM: i64 = 32;
 
 type Builder = fn(&[u8], &mut [u8]) -> i64;
 
-struct Results {
+pub struct Results {
     builders: [(Check, Builder); 4],
     room: Check,
     fit: Check,
 }
 
 pub fn compare(size: Size) -> Vec<Check> {
-    let mut results = Results {
-        builders: [
-            (Check::new("station_build_query_results"), station_build_query_results),
-            (Check::new("station_build_query_result"), station_build_query_result),
-            (
-                Check::new("station_build_query_result_with_trailing_info"),
-                station_build_query_result_with_trailing_info,
-            ),
-            (
-                Check::new("station_build_query_result_with_extras"),
-                station_build_query_result_with_extras,
-            ),
-        ],
-        room: Check::new("station_room"),
-        fit: Check::new("station_fit"),
-    };
+    let mut results = Results::new();
     let mut random = size.random("result");
     results.every_order(size.count(3, 4));
     results.every_payload_length(&mut random);
@@ -64,7 +49,26 @@ pub fn compare(size: Size) -> Vec<Check> {
 }
 
 impl Results {
-    fn checks(self) -> Vec<Check> {
+    pub fn new() -> Self {
+        Self {
+            builders: [
+                (Check::new("station_build_query_results"), station_build_query_results),
+                (Check::new("station_build_query_result"), station_build_query_result),
+                (
+                    Check::new("station_build_query_result_with_trailing_info"),
+                    station_build_query_result_with_trailing_info,
+                ),
+                (
+                    Check::new("station_build_query_result_with_extras"),
+                    station_build_query_result_with_extras,
+                ),
+            ],
+            room: Check::new("station_room"),
+            fit: Check::new("station_fit"),
+        }
+    }
+
+    pub fn checks(self) -> Vec<Check> {
         let builders = self.builders.into_iter().map(|(check, _)| check);
         builders.chain([self.room, self.fit]).collect()
     }
@@ -74,7 +78,7 @@ impl Results {
     }
 
     /// All calls that take the script.
-    fn script(&mut self, script: &[u8]) {
+    pub fn script(&mut self, script: &[u8]) {
         let decoded = accepted(script);
         let reply = decoded.as_ref().map_err(|number| *number).and_then(packet);
         for (check, builder) in &mut self.builders {

@@ -18,10 +18,14 @@ pub fn compare(size: Size) -> Vec<Check> {
 fn white_space() -> Check {
     let mut check = Check::new("station_is_whitespace");
     for unit in 0..=u16::MAX {
-        let blank = char::from_u32(unit.into()).is_some_and(char::is_whitespace);
-        check.number(|| format!("{unit:04X}"), Ok(blank.into()), || station_is_whitespace(unit));
+        compare_unit(&mut check, unit);
     }
     check
+}
+
+pub fn compare_unit(check: &mut Check, unit: u16) {
+    let blank = char::from_u32(unit.into()).is_some_and(char::is_whitespace);
+    check.number(|| format!("{unit:04X}"), Ok(blank.into()), || station_is_whitespace(unit));
 }
 
 fn texts(size: Size) -> Check {
@@ -86,7 +90,7 @@ fn random_bytes(random: &mut Random, most: usize) -> Vec<u8> {
     bytes
 }
 
-fn compare_text(check: &mut Check, bytes: &[u8]) {
+pub fn compare_text(check: &mut Check, bytes: &[u8]) {
     check.slots(|| hex(bytes), &counts(bytes), COUNTS, |out| station_text(bytes, out));
 }
 
