@@ -25,6 +25,8 @@ mod refusal;
 mod script;
 #[path = "../../oracle/src/station.rs"]
 mod station;
+#[path = "../../oracle/src/tokens.rs"]
+pub mod tokens;
 #[path = "../../oracle/src/utf16.rs"]
 mod utf16;
 

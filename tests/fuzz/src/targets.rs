@@ -81,8 +81,17 @@ impl Calls {
     }
 }
 
+/// The script that an input of the target stands for, if it stands for one.
+pub fn script(target: &str, input: &[u8]) -> Option<Vec<u8>> {
+    match target {
+        "script" => Some(input.to_vec()),
+        "records" => Some(script_of(input)),
+        _ => None,
+    }
+}
+
 /// The script of an input in the compact form.
-pub fn script_of(input: &[u8]) -> Vec<u8> {
+fn script_of(input: &[u8]) -> Vec<u8> {
     records::written(&Draw::new(input).records())
 }
 
