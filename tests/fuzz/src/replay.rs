@@ -1,7 +1,8 @@
 //! Compares stored inputs once, without libFuzzer. A file holds a line for each input, in hexadecimal.
 //!
 //! `replay TARGET FILE` prints for each function what tests/oracle prints, and how many inputs there
-//! were. `replay tokens TARGET FILE` prints the tokens of each script that fits, as tests/oracle does.
+//! were. `replay scripts TARGET FILE` prints the scripts that the inputs stand for, in hexadecimal, and
+//! `replay tokens TARGET FILE` the tokens of those that fit, as tests/oracle does.
 
 use fuzz::hex::{hex, unhex};
 use fuzz::targets::{Target, script};
@@ -13,12 +14,13 @@ fn main() -> ExitCode {
     let words: Vec<String> = std::env::args().skip(1).collect();
     let words: Vec<&str> = words.iter().map(String::as_str).collect();
     let done = match words.as_slice() {
-        ["tokens", target, file] => Some(print_tokens(target, file)),
+        ["scripts", target, file] => Some(print(target, file, |script| Some(hex(script)))),
+        ["tokens", target, file] => Some(print(target, file, tokens_line)),
         [target, file] => Target::named(target).map(|found| replay(target, found, file)),
         _ => None,
     };
     done.unwrap_or_else(|| {
-        eprintln!("replay TARGET FILE\nreplay tokens TARGET FILE");
+        eprintln!("replay [scripts|tokens] TARGET FILE");
         ExitCode::from(2)
     })
 }
@@ -43,11 +45,17 @@ fn replay(name: &str, mut target: Target, file: &str) -> ExitCode {
     if compared > 0 && differences == 0 { ExitCode::SUCCESS } else { ExitCode::FAILURE }
 }
 
-fn print_tokens(target: &str, file: &str) -> ExitCode {
+/// Prints what is said of each input's script.
+fn print(target: &str, file: &str, line: fn(&[u8]) -> Option<String>) -> ExitCode {
     for script in inputs(file).iter().filter_map(|input| script(target, input)) {
-        if let Some(lines) = tokens::lines(&script) {
-            println!("{} => {}", hex(&script), lines.join(" | "));
+        if let Some(line) = line(&script) {
+            println!("{line}");
         }
     }
     ExitCode::SUCCESS
+}
+
+/// The script and its tokens, if it fits.
+fn tokens_line(script: &[u8]) -> Option<String> {
+    Some(format!("{} => {}", hex(script), tokens::lines(script)?.join(" | ")))
 }
