@@ -18,7 +18,7 @@ pub mod hex;
 #[path = "../../oracle/src/inputs/mod.rs"]
 mod inputs;
 #[path = "../../oracle/src/random.rs"]
-pub mod random;
+mod random;
 #[path = "../../oracle/src/refusal.rs"]
 mod refusal;
 #[path = "../../oracle/src/script/mod.rs"]

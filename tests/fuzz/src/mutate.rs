@@ -1,8 +1,10 @@
 //! Mutations that keep an input's shape: of a script record by record with right lengths, of a login
-//! with its table of offsets and its features. Half of all mutations are libFuzzer's own, on the bytes.
+//! with its table of offsets and its features; at times another input of the oracle's. Half of all
+//! mutations are libFuzzer's own, on the bytes.
 
 use crate::inputs::login::{random_feature, random_login, scattered_login};
-use crate::inputs::script::random_record;
+use crate::inputs::request::*;
+use crate::inputs::script::{damaged, random_record, random_script};
 use crate::random::Random;
 use crate::script::records::{self, Record};
 
@@ -16,12 +18,14 @@ pub fn mutated(target: &str, input: &[u8], most: usize, seed: u64, own: Own) -> 
         _ if random.one_in(2) => None,
         "script" => Some(script(&mut random, input, most, own)),
         "login" => Some(login(&mut random, input)),
+        "request" if random.one_in(8) => Some(request(&mut random)),
         _ => None,
     };
     shaped.filter(|bytes| bytes.len() <= most).unwrap_or_else(|| own(input, most))
 }
 
-/// The script with one record changed, added, taken away or moved, or a run of them repeated.
+/// The script with one record changed, added, taken away or moved, or a run of them repeated; at times
+/// another script.
 fn script(random: &mut Random, input: &[u8], most: usize, own: Own) -> Vec<u8> {
     let (mut script, tail) = split(input);
     if script.is_empty() {
@@ -29,16 +33,21 @@ fn script(random: &mut Random, input: &[u8], most: usize, own: Own) -> Vec<u8> {
     }
     let place = random.below(script.len());
     let other = random.within(0, script.len());
-    match random.below(8) {
-        0..=2 => {
+    match random.below(20) {
+        0 => return records::written(&random_script(random)),
+        1 => {
+            let good = random_script(random);
+            return damaged(random, &good);
+        }
+        2..=8 => {
             let room = most.saturating_sub(input.len()) + script[place].payload.len();
             script[place].payload = own(&script[place].payload, room.max(1));
         }
-        3 | 4 => script.insert(other, random_record(random)),
-        5 => {
+        9..=12 => script.insert(other, random_record(random)),
+        13 | 14 => {
             script.remove(place);
         }
-        6 => {
+        15 | 16 => {
             let moved = script.remove(place);
             script.insert(other.min(script.len()), moved);
         }
@@ -59,6 +68,12 @@ fn split(mut bytes: &[u8]) -> (Vec<Record>, &[u8]) {
         bytes = rest;
     }
     (script, bytes)
+}
+
+/// Another request of one of the kinds.
+fn request(random: &mut Random) -> Vec<u8> {
+    let makers = [random_batch, random_transaction, random_descriptor, random_token_message];
+    random.pick(&makers)(random)
 }
 
 /// The login with a table entry or the place of its features moved, or with a feature more; at times

@@ -7,6 +7,8 @@
 use fuzz::hex::{hex, unhex};
 use fuzz::targets::{Target, script};
 use fuzz::tokens;
+use std::collections::BTreeMap;
+use std::collections::btree_map::Entry;
 use std::fs;
 use std::process::ExitCode;
 
@@ -32,15 +34,20 @@ fn inputs(file: &str) -> Vec<Vec<u8>> {
 
 fn replay(name: &str, mut target: Target, file: &str) -> ExitCode {
     let inputs = inputs(file);
-    for input in &inputs {
-        target.compare(input);
+    let mut functions = BTreeMap::new();
+    for check in inputs.iter().flat_map(|input| target.compare(input)) {
+        match functions.entry(check.name()) {
+            Entry::Vacant(place) => {
+                place.insert(check);
+            }
+            Entry::Occupied(mut place) => place.get_mut().add(&check),
+        }
     }
-    let checks = target.taken();
-    for check in &checks {
+    for check in functions.values() {
         println!("  {}", check.line());
     }
-    let compared: u64 = checks.iter().map(|check| check.compared()).sum();
-    let differences: u64 = checks.iter().map(|check| check.differences).sum();
+    let compared: u64 = functions.values().map(|check| check.compared()).sum();
+    let differences: u64 = functions.values().map(|check| check.differences).sum();
     println!("{name}: {} inputs, {compared} compared, {differences} different", inputs.len());
     if compared > 0 && differences == 0 { ExitCode::SUCCESS } else { ExitCode::FAILURE }
 }

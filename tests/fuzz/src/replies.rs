@@ -1,114 +1,100 @@
-//! The other replies: the first byte of an input chooses the export, the rest is its arguments in
+//! The other replies: the first byte of an input chooses the exports, the rest is their arguments in
 //! the compact form.
 
 use crate::compact::Draw;
 use crate::compare::Check;
 use crate::groups::response::*;
-use crate::hex::hex;
 use crate::script::records::{self, DATABASE_ROUTE, FEATURE, PLAIN_ROUTE, Record};
-use crate::station::station_build_routing_login_response;
 use crate::wall::Wall;
 
-/// The exports with arguments, in the order of their choice.
-const NAMES: [&str; 15] = [
-    "station_build_feature_ext_ack_data_classification",
-    "station_build_feature_ext_ack_enhanced_routing",
-    "station_build_transaction_manager_response",
-    "station_build_done_token",
-    "station_build_done_token_with_status",
-    "station_build_feature_ext_ack",
-    "station_build_fedauth_challenge_response",
-    "station_build_fedauth_info_token",
-    "station_build_info_token",
-    "station_build_leading_error_tokens",
-    "station_build_terminal_error_tokens",
-    "station_build_error_response",
-    "station_build_routing_envchange_token",
-    "station_build_routing_response",
-    "station_build_enhanced_routing_envchange_token",
-];
-
-pub struct Replies {
-    checks: Vec<Check>,
-    routes: Check,
-    /// The replies of no argument or of truth values, compared with every buffer.
-    fixed: Vec<Check>,
+/// Compares the exports that the input chooses.
+pub fn compare_one(input: &[u8], walls: &mut [Wall; 3]) -> Vec<Check> {
+    let mut draw = Draw::new(input);
+    let choice = draw.byte() & 0x1F;
+    match choice {
+        0..=4 => numbers(choice, &mut draw),
+        5 => {
+            let list = list(&mut draw, 0, feature);
+            let mut check = Check::new("station_build_feature_ext_ack");
+            feature_list(&mut check, walls[0].lend(&list));
+            vec![check]
+        }
+        6..=14 => texts(choice, &mut draw, walls),
+        15 => fixed_replies(),
+        _ => routes(&mut draw, walls),
+    }
 }
 
-impl Replies {
-    pub fn new() -> Self {
-        Self {
-            checks: NAMES.map(Check::new).into(),
-            routes: Check::new("station_build_routing_login_response"),
-            fixed: Vec::new(),
+fn numbers(choice: u8, draw: &mut Draw) -> Vec<Check> {
+    let name = match choice {
+        0 => "station_build_feature_ext_ack_data_classification",
+        1 => "station_build_feature_ext_ack_enhanced_routing",
+        2 => "station_build_transaction_manager_response",
+        3 => "station_build_done_token",
+        _ => "station_build_done_token_with_status",
+    };
+    let mut check = Check::new(name);
+    match choice {
+        0 => data_classification(&mut check, draw.byte()),
+        1 => enhanced_routing(&mut check, draw.byte()),
+        2 => transaction_response(&mut check, draw.u16()),
+        3 => done(&mut check, draw.u64()),
+        _ => done_with_status(&mut check, draw.u16(), draw.u64()),
+    }
+    vec![check]
+}
+
+/// Replies of texts: two of federated authentication, an info, three of an error, three of a route.
+fn texts(choice: u8, draw: &mut Draw, [one, two, three]: &mut [Wall; 3]) -> Vec<Check> {
+    let texts = [(); 3].map(|()| draw.bytes());
+    let [one, two, three] = [one.lend(&texts[0]), two.lend(&texts[1]), three.lend(&texts[2])];
+    let (number, byte, port) = (draw.u32(), draw.byte(), draw.u16());
+    match choice {
+        6 | 7 => {
+            let names =
+                ["station_build_fedauth_challenge_response", "station_build_fedauth_info_token"];
+            compared(names, |checks| fedauth_infos(checks, one, two))
+        }
+        8 => compared(["station_build_info_token"], |[check]| {
+            info(check, (number, byte, draw.byte(), draw.u32()), [one, two, three]);
+        }),
+        9..=11 => {
+            let names = [
+                "station_build_leading_error_tokens",
+                "station_build_terminal_error_tokens",
+                "station_build_error_response",
+            ];
+            compared(names, |checks| all_errors(checks, number, byte, one))
+        }
+        _ => {
+            let names = [
+                "station_build_routing_envchange_token",
+                "station_build_routing_response",
+                "station_build_enhanced_routing_envchange_token",
+            ];
+            compared(names, |checks| all_routes(checks, one, port, two))
         }
     }
+}
 
-    pub fn checks(mut self) -> Vec<Check> {
-        self.checks.push(self.routes);
-        self.checks.extend(self.fixed);
-        self.checks
-    }
+/// The counts of these functions after a comparison.
+fn compared<const N: usize>(
+    names: [&'static str; N],
+    compare: impl FnOnce([&mut Check; N]),
+) -> Vec<Check> {
+    let mut checks = names.map(Check::new);
+    compare(checks.each_mut());
+    checks.into()
+}
 
-    pub fn compare(&mut self, input: &[u8], walls: &mut [Wall; 3]) {
-        let mut draw = Draw::new(input);
-        let choice = usize::from(draw.byte() & 0x1F);
-        match choice {
-            0..=4 => self.numbers(choice, &mut draw),
-            5 => {
-                let list = list(&mut draw, 0, feature);
-                feature_list(&mut self.checks[5], walls[0].lend(&list));
-            }
-            6..=14 => self.texts(choice, &mut draw, walls),
-            15 => self.fixed = fixed_replies(),
-            _ => self.routes(&mut draw, walls),
-        }
-    }
-
-    fn numbers(&mut self, choice: usize, draw: &mut Draw) {
-        let check = &mut self.checks[choice];
-        match choice {
-            0 => data_classification(check, draw.byte()),
-            1 => enhanced_routing(check, draw.byte()),
-            2 => transaction_response(check, draw.u16()),
-            3 => done(check, draw.u64()),
-            _ => done_with_status(check, draw.u16(), draw.u64()),
-        }
-    }
-
-    fn texts(&mut self, choice: usize, draw: &mut Draw, [one, two, three]: &mut [Wall; 3]) {
-        let check = &mut self.checks[choice];
-        let texts = [(); 3].map(|()| draw.bytes());
-        let [one, two, three] = [one.lend(&texts[0]), two.lend(&texts[1]), three.lend(&texts[2])];
-        let (number, byte, port) = (draw.u32(), draw.byte(), draw.u16());
-        match choice {
-            6 => fedauth_challenge(check, one, two),
-            7 => fedauth_info(check, one, two),
-            8 => info(check, (number, byte, draw.byte(), draw.u32()), [one, two, three]),
-            9 => leading_error(check, number, byte, one),
-            10 => terminal_error(check, number, byte, one),
-            11 => error_response(check, one),
-            12 => routing_token(check, one, port),
-            13 => routing_response(check, one, port),
-            _ => enhanced_routing_token(check, one, port, two),
-        }
-    }
-
-    /// A routed login; an acknowledgement of 256 and above is none.
-    fn routes(&mut self, draw: &mut Draw, [one, two, _]: &mut [Wall; 3]) {
-        let (port, ack, flags) = (draw.u16(), draw.u16(), draw.byte());
-        let host = draw.bytes();
-        let list = list(draw, host.len(), route);
-        let (host, list) = (one.lend(&host), two.lend(&list));
-        let (login_ack, ack_before) = (flags & 1 != 0, flags & 2 != 0);
-        let routing = Routing { host, port, login_ack, ack: ack.try_into().ok(), ack_before };
-        let input = || format!("{} routes {} ack {ack} flags {flags}", hex(host), hex(list));
-        self.routes.buffer(input, &routing_reply(routing, list), |buffer| {
-            station_build_routing_login_response(
-                host, port, list, login_ack, ack, ack_before, buffer,
-            )
-        });
-    }
+fn routes(draw: &mut Draw, [one, two, _]: &mut [Wall; 3]) -> Vec<Check> {
+    let (port, ack, flags) = (draw.u16(), draw.u16(), draw.byte());
+    let host = draw.bytes();
+    let list = list(draw, host.len(), route);
+    let route = (one.lend(&host), port);
+    compared(["station_build_routing_login_response"], |[check]| {
+        routed_login(check, route, two.lend(&list), (flags & 1 != 0, ack, flags & 2 != 0));
+    })
 }
 
 /// More than the records of the longest reply and what is sent for each of them.

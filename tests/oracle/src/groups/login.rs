@@ -18,7 +18,7 @@ const NO_BYTE: u64 = 256;
 /// The start of a part where there is none.
 const NO_START: u64 = 1 << 32;
 
-pub struct Logins {
+struct Logins {
     login: Check,
     database: Check,
 }
@@ -35,19 +35,23 @@ pub fn compare(size: Size) -> Vec<Check> {
         let length = random.within(50, 160);
         logins.compare(&scattered_login(&mut random, length));
     }
-    logins.checks()
+    vec![logins.login, logins.database]
+}
+
+/// One login, for tests/fuzz.
+#[allow(dead_code)]
+pub fn compare_one(body: &[u8]) -> Vec<Check> {
+    let mut logins = Logins::new();
+    logins.compare(body);
+    vec![logins.login, logins.database]
 }
 
 impl Logins {
-    pub fn new() -> Self {
+    fn new() -> Self {
         Self { login: Check::new("station_parse_login7"), database: Check::new("station_database") }
     }
 
-    pub fn checks(self) -> Vec<Check> {
-        vec![self.login, self.database]
-    }
-
-    pub fn compare(&mut self, body: &[u8]) {
+    fn compare(&mut self, body: &[u8]) {
         let login = rust_login(body);
         self.login(body, &login);
         self.database(body, login.database);

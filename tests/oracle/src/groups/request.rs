@@ -9,7 +9,7 @@ use crate::random::Random;
 use crate::station::*;
 use crate::utf16;
 
-pub struct Requests {
+struct Requests {
     batch: Check,
     transaction: Check,
     descriptor: Check,
@@ -30,8 +30,16 @@ pub fn compare(size: Size) -> Vec<Check> {
     requests.checks()
 }
 
+/// One body, read as each kind of request, for tests/fuzz.
+#[allow(dead_code)]
+pub fn compare_one(body: &[u8]) -> Vec<Check> {
+    let mut requests = Requests::new();
+    requests.all(body);
+    requests.checks()
+}
+
 impl Requests {
-    pub fn new() -> Self {
+    fn new() -> Self {
         Self {
             batch: Check::new("station_parse_sql_batch"),
             transaction: Check::new("station_parse_transaction_manager_request"),
@@ -40,12 +48,12 @@ impl Requests {
         }
     }
 
-    pub fn checks(self) -> Vec<Check> {
+    fn checks(self) -> Vec<Check> {
         vec![self.batch, self.transaction, self.descriptor, self.fedauth]
     }
 
     /// The body, read as each kind of request.
-    pub fn all(&mut self, body: &[u8]) {
+    fn all(&mut self, body: &[u8]) {
         self.batch(body);
         self.transaction(body);
         self.descriptor(body);

@@ -263,29 +263,24 @@ fn pairs_of_texts(size: Size) -> Vec<Check> {
     let most_bare = (LONGEST_RESULT - private_build_fedauth_info_token("", "").len()) / 2;
     let random_calls = size.count(10_000, 200_000);
     for texts in text_lists(&mut random, 2, &[most, most_bare], random_calls) {
-        fedauth_challenge(&mut challenge, &texts[0], &texts[1]);
-        fedauth_info(&mut token, &texts[0], &texts[1]);
+        fedauth_infos([&mut challenge, &mut token], &texts[0], &texts[1]);
     }
     vec![challenge, token]
 }
 
-pub fn fedauth_challenge(check: &mut Check, url: &[u8], spn: &[u8]) {
-    let reply = fedauth_reply(build_fedauth_challenge_response, url, spn);
+/// In a packet behind its acknowledgement, and by itself.
+pub fn fedauth_infos([challenge, token]: [&mut Check; 2], url: &[u8], spn: &[u8]) {
     let input = || format!("url {} spn {}", hex(url), hex(spn));
-    let call = |buffer: &mut [u8]| station_build_fedauth_challenge_response(url, spn, buffer);
-    check.buffer(input, &reply, call);
-}
-
-pub fn fedauth_info(check: &mut Check, url: &[u8], spn: &[u8]) {
-    let reply = fedauth_reply(private_build_fedauth_info_token, url, spn);
-    let input = || format!("url {} spn {}", hex(url), hex(spn));
-    let call = |buffer: &mut [u8]| station_build_fedauth_info_token(url, spn, buffer);
-    check.buffer(input, &reply, call);
-}
-
-fn fedauth_reply(build: fn(&str, &str) -> BytesMut, url: &[u8], spn: &[u8]) -> Answer<Vec<u8>> {
-    let (url, spn) = (argument(url)?, argument(spn)?);
-    limited(build(&url, &spn))
+    let arguments = argument(url).and_then(|url| Ok((url, argument(spn)?)));
+    let reply = |build: fn(&str, &str) -> BytesMut| {
+        arguments.clone().and_then(|(url, spn)| limited(build(&url, &spn)))
+    };
+    challenge.buffer(input, &reply(build_fedauth_challenge_response), |buffer| {
+        station_build_fedauth_challenge_response(url, spn, buffer)
+    });
+    token.buffer(input, &reply(private_build_fedauth_info_token), |buffer| {
+        station_build_fedauth_info_token(url, spn, buffer)
+    });
 }
 
 /// Lists of `count` text arguments: every choice of short, odd and ill-formed ones; texts of
@@ -424,48 +419,44 @@ fn info_message(
 
 // Errors.
 
+/// A leading and a terminal error, and the error response, which has a text alone.
+pub fn all_errors(checks: [&mut Check; 3], number: u32, severity: u8, text: &[u8]) {
+    let [leading, terminal, response] = checks;
+    let input = || format!("number {number} severity {severity} text {}", hex(text));
+    let tokens = argument(text).map(|text| error_tokens(number, severity, &text));
+    let reply = tokens.clone().and_then(|(leading, _)| limited(leading));
+    leading.buffer(input, &reply, |buffer| {
+        station_build_leading_error_tokens(number, severity, text, buffer)
+    });
+    let reply = tokens.and_then(|(_, terminal)| limited(terminal));
+    terminal.buffer(input, &reply, |buffer| {
+        station_build_terminal_error_tokens(number, severity, text, buffer)
+    });
+    let reply = argument(text).and_then(|text| limited(build_error_response(&text)));
+    response.buffer(|| hex(text), &reply, |buffer| station_build_error_response(text, buffer));
+}
+
 fn errors(size: Size) -> Vec<Check> {
     let mut leading = Check::new("station_build_leading_error_tokens");
     let mut terminal = Check::new("station_build_terminal_error_tokens");
     let mut response = Check::new("station_build_error_response");
     let mut random = size.random("error");
     let most = (LONGEST_RESULT - build_error_response("").len()) / 2;
-    let empty_error = build_leading_error_tokens(&LeadingError::new(0, 0, ""));
-    let most_bare = (LONGEST_RESULT - empty_error.len()) / 2;
+    let most_bare = (LONGEST_RESULT - error_tokens(0, 0, "").0.len()) / 2;
     let borders = [1, 255, 256, 21_845, 21_846, 21_847, 32_767, most, most_bare];
     for texts in text_lists(&mut random, 1, &borders, size.count(10_000, 200_000)) {
-        let text = &texts[0];
         let (number, severity) = (random.number(), random.byte());
-        leading_error(&mut leading, number, severity, text);
-        terminal_error(&mut terminal, number, severity, text);
-        error_response(&mut response, text);
+        all_errors([&mut leading, &mut terminal, &mut response], number, severity, &texts[0]);
     }
     vec![leading, terminal, response]
 }
 
-pub fn leading_error(check: &mut Check, number: u32, severity: u8, text: &[u8]) {
-    let reply = argument(text).and_then(|text| {
-        limited(build_leading_error_tokens(&LeadingError::new(number, severity, &text)))
-    });
-    let input = || format!("number {number} severity {severity} text {}", hex(text));
-    check.buffer(input, &reply, |buffer| {
-        station_build_leading_error_tokens(number, severity, text, buffer)
-    });
-}
-
-pub fn terminal_error(check: &mut Check, number: u32, severity: u8, text: &[u8]) {
-    let reply = argument(text).and_then(|text| {
-        limited(build_terminal_error_tokens(&TerminalError::new(number, severity, &text)))
-    });
-    let input = || format!("number {number} severity {severity} text {}", hex(text));
-    check.buffer(input, &reply, |buffer| {
-        station_build_terminal_error_tokens(number, severity, text, buffer)
-    });
-}
-
-pub fn error_response(check: &mut Check, text: &[u8]) {
-    let reply = argument(text).and_then(|text| limited(build_error_response(&text)));
-    check.buffer(|| hex(text), &reply, |buffer| station_build_error_response(text, buffer));
+/// The tokens of a leading and of a terminal error.
+fn error_tokens(number: u32, severity: u8, text: &str) -> (BytesMut, BytesMut) {
+    (
+        build_leading_error_tokens(&LeadingError::new(number, severity, text)),
+        build_terminal_error_tokens(&TerminalError::new(number, severity, text)),
+    )
 }
 
 // Routing.
@@ -484,38 +475,10 @@ fn routes(size: Size) -> Vec<Check> {
     ]
     .map(|reply| (LONGEST_RESULT - reply.len()) / 2);
     for texts in text_lists(&mut random, 2, &most, size.count(10_000, 200_000)) {
-        let (host, database) = (&texts[0], &texts[1]);
         let port = random.pick(&PORTS);
-        routing_token(&mut token, host, port);
-        routing_response(&mut response, host, port);
-        enhanced_routing_token(&mut enhanced, host, port, database);
+        all_routes([&mut token, &mut response, &mut enhanced], &texts[0], port, &texts[1]);
     }
     vec![token, response, enhanced]
-}
-
-pub fn routing_token(check: &mut Check, host: &[u8], port: u16) {
-    let reply = argument(host).and_then(|host| limited(build_routing_envchange_token(&host, port)));
-    let input = || format!("host {} port {port}", hex(host));
-    let call = |buffer: &mut [u8]| station_build_routing_envchange_token(host, port, buffer);
-    check.buffer(input, &reply, call);
-}
-
-pub fn routing_response(check: &mut Check, host: &[u8], port: u16) {
-    let reply = argument(host).and_then(|host| limited(build_routing_response(&host, port)));
-    let input = || format!("host {} port {port}", hex(host));
-    let call = |buffer: &mut [u8]| station_build_routing_response(host, port, buffer);
-    check.buffer(input, &reply, call);
-}
-
-pub fn enhanced_routing_token(check: &mut Check, host: &[u8], port: u16, database: &[u8]) {
-    let reply = argument(host).and_then(|host| {
-        let database = argument(database)?;
-        limited(build_enhanced_routing_envchange_token(&host, port, &database))
-    });
-    let input = || format!("host {} port {port} database {}", hex(host), hex(database));
-    check.buffer(input, &reply, |buffer| {
-        station_build_enhanced_routing_envchange_token(host, port, database, buffer)
-    });
 }
 
 /// No acknowledgement.
@@ -523,12 +486,12 @@ const NO_ACK: u16 = 256;
 
 /// The arguments of a routing login response but for the list of routes.
 #[derive(Clone, Copy)]
-pub struct Routing<'a> {
-    pub host: &'a [u8],
-    pub port: u16,
-    pub login_ack: bool,
-    pub ack: Option<u8>,
-    pub ack_before: bool,
+struct Routing<'a> {
+    host: &'a [u8],
+    port: u16,
+    login_ack: bool,
+    ack: Option<u8>,
+    ack_before: bool,
 }
 
 fn route_lists(size: Size) -> Vec<Check> {
@@ -589,6 +552,43 @@ fn every_routing(check: &mut Check) {
     }
 }
 
+/// A plain route as a token and as a response, and a route to a database.
+pub fn all_routes(checks: [&mut Check; 3], host: &[u8], port: u16, database: &[u8]) {
+    let [token, response, enhanced] = checks;
+    let input = || format!("host {} port {port} database {}", hex(host), hex(database));
+    let host_text = argument(host);
+    let reply =
+        host_text.clone().and_then(|host| limited(build_routing_envchange_token(&host, port)));
+    token.buffer(input, &reply, |buffer| station_build_routing_envchange_token(host, port, buffer));
+    let reply = host_text.clone().and_then(|host| limited(build_routing_response(&host, port)));
+    response.buffer(input, &reply, |buffer| station_build_routing_response(host, port, buffer));
+    let reply = host_text.and_then(|host| {
+        let database = argument(database)?;
+        limited(build_enhanced_routing_envchange_token(&host, port, &database))
+    });
+    enhanced.buffer(input, &reply, |buffer| {
+        station_build_enhanced_routing_envchange_token(host, port, database, buffer)
+    });
+}
+
+/// A routed login by the number of its acknowledgement, 256 and above for none, for tests/fuzz.
+#[allow(dead_code)]
+pub fn routed_login(
+    check: &mut Check,
+    (host, port): (&[u8], u16),
+    list: &[u8],
+    (login_ack, ack, ack_before): (bool, u16, bool),
+) {
+    let routing = Routing { host, port, login_ack, ack: ack.try_into().ok(), ack_before };
+    let input = || {
+        let (host, list) = (hex(host), hex(list));
+        format!("host {host} port {port} routes {list} {login_ack} ack {ack} {ack_before}")
+    };
+    check.buffer(input, &routing_reply(routing, list), |buffer| {
+        station_build_routing_login_response(host, port, list, login_ack, ack, ack_before, buffer)
+    });
+}
+
 /// Replies of 65,535 bytes and around it, by the host, a database text, and the number of routes.
 fn long_route_lists(check: &mut Check) {
     let plain = records::written(&[Record::new(PLAIN_ROUTE, [])]);
@@ -611,7 +611,7 @@ fn long_route_lists(check: &mut Check) {
     }
 }
 
-pub fn route_list(check: &mut Check, routing: Routing, list: &[u8]) {
+fn route_list(check: &mut Check, routing: Routing, list: &[u8]) {
     let Routing { host, port, login_ack, ack, ack_before } = routing;
     let input = || {
         let (host, list) = (hex(host), hex(list));
@@ -625,7 +625,7 @@ pub fn route_list(check: &mut Check, routing: Routing, list: &[u8]) {
     });
 }
 
-pub fn routing_reply(routing: Routing, list: &[u8]) -> Answer<Vec<u8>> {
+fn routing_reply(routing: Routing, list: &[u8]) -> Answer<Vec<u8>> {
     let Routing { host, port, login_ack, ack, ack_before } = routing;
     let host = argument(host)?;
     let routes = routes_of(list)?;

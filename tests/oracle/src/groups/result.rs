@@ -20,7 +20,7 @@ const SPARE_ROOM: i64 = 32;
 
 type Builder = fn(&[u8], &mut [u8]) -> i64;
 
-pub struct Results {
+struct Results {
     builders: [(Check, Builder); 4],
     room: Check,
     fit: Check,
@@ -48,8 +48,16 @@ pub fn compare(size: Size) -> Vec<Check> {
     results.checks()
 }
 
+/// One script, for tests/fuzz.
+#[allow(dead_code)]
+pub fn compare_one(script: &[u8]) -> Vec<Check> {
+    let mut results = Results::new();
+    results.script(script);
+    results.checks()
+}
+
 impl Results {
-    pub fn new() -> Self {
+    fn new() -> Self {
         Self {
             builders: [
                 (Check::new("station_build_query_results"), station_build_query_results),
@@ -68,7 +76,7 @@ impl Results {
         }
     }
 
-    pub fn checks(self) -> Vec<Check> {
+    fn checks(self) -> Vec<Check> {
         let builders = self.builders.into_iter().map(|(check, _)| check);
         builders.chain([self.room, self.fit]).collect()
     }
@@ -78,7 +86,7 @@ impl Results {
     }
 
     /// All calls that take the script.
-    pub fn script(&mut self, script: &[u8]) {
+    fn script(&mut self, script: &[u8]) {
         let decoded = accepted(script);
         let reply = decoded.as_ref().map_err(|number| *number).and_then(packet);
         for (check, builder) in &mut self.builders {
