@@ -1,11 +1,12 @@
 //! Places the Rust modules of docs/src for the compiler, unchanged, with wrappers appended for
-//! private functions, and names the static library to link.
+//! private functions, and names the static library to link. Folders are named as seen from this
+//! folder and from its neighbours, which are built by this file too.
 
 use std::path::{Path, PathBuf};
 use std::{env, fs};
 
 const RUST: &str = "../../docs/src/mssql-mock-tds/src";
-const WRAPPERS: &str = "wrappers";
+const WRAPPERS: &str = "../oracle/wrappers";
 const LIBRARY: &str = "../../target/staticlib";
 const GROUPS: [&str; 6] = ["HEADER", "TEXT", "REQUEST", "LOGIN", "RESULT", "RESPONSE"];
 
@@ -16,7 +17,7 @@ const MODULES: [(&str, u64); 2] =
 fn main() {
     let here = PathBuf::from(env::var("CARGO_MANIFEST_DIR").unwrap());
     let out = PathBuf::from(env::var("OUT_DIR").unwrap());
-    println!("cargo:rerun-if-changed=build.rs");
+    println!("cargo:rerun-if-changed=../oracle/build.rs");
     let declared = MODULES.map(|(module, sum)| place(&here, &out, module, sum));
     fs::write(out.join("rust_modules.rs"), declared.concat()).unwrap();
     link_station(&here);

@@ -202,6 +202,23 @@ impl Check {
         );
     }
 
+    /// Adds the counts of another run of the function, for tests/fuzz.
+    #[allow(dead_code)]
+    pub fn add(&mut self, other: &Self) {
+        assert_eq!(self.name, other.name, "counts of one function");
+        self.compared += other.compared;
+        self.accepted += other.accepted;
+        self.differences += other.differences;
+        for (number, times) in &other.refused {
+            *self.refused.entry(*number).or_default() += times;
+        }
+    }
+
+    #[allow(dead_code)]
+    pub fn name(&self) -> &'static str {
+        self.name
+    }
+
     /// The line of the function.
     pub fn line(&self) -> String {
         let refused: Vec<String> =

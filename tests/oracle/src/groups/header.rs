@@ -28,6 +28,14 @@ pub fn compare(size: Size) -> Vec<Check> {
     vec![check]
 }
 
+/// One header, for tests/fuzz.
+#[allow(dead_code)]
+pub fn compare_one(bytes: &[u8]) -> Vec<Check> {
+    let mut check = Check::new("station_parse_header");
+    compare_header(&mut check, bytes);
+    vec![check]
+}
+
 /// All 2^16 values of type and status, of the length, of the spid, and of number and window.
 fn every_pair_of_bytes(check: &mut Check) {
     for place in [0, 2, 4, 6] {

@@ -17,10 +17,7 @@ struct Logins {
 }
 
 pub fn compare(size: Size) -> Vec<Check> {
-    let mut logins = Logins {
-        login: Check::new("station_parse_login7"),
-        database: Check::new("station_database"),
-    };
+    let mut logins = Logins::new();
     let mut random = size.random("login");
     logins.every_length(&mut random, size.count(100, 2_000));
     logins.cut_everywhere();
@@ -34,7 +31,19 @@ pub fn compare(size: Size) -> Vec<Check> {
     vec![logins.login, logins.database]
 }
 
+/// One login, for tests/fuzz.
+#[allow(dead_code)]
+pub fn compare_one(body: &[u8]) -> Vec<Check> {
+    let mut logins = Logins::new();
+    logins.compare(body);
+    vec![logins.login, logins.database]
+}
+
 impl Logins {
+    fn new() -> Self {
+        Self { login: Check::new("station_parse_login7"), database: Check::new("station_database") }
+    }
+
     fn compare(&mut self, body: &[u8]) {
         let login = rust_login(body);
         self.login(body, &login);

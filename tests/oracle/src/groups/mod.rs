@@ -1,17 +1,17 @@
 //! The groups of comparisons, each under the feature of its name.
 
 #[cfg(feature = "header")]
-mod header;
+pub mod header;
 #[cfg(feature = "login")]
-mod login;
+pub mod login;
 #[cfg(feature = "request")]
-mod request;
+pub mod request;
 #[cfg(feature = "response")]
-mod response;
+pub mod response;
 #[cfg(feature = "result")]
-mod result;
+pub mod result;
 #[cfg(feature = "text")]
-mod text;
+pub mod text;
 
 use crate::compare::Check;
 use crate::random::Random;

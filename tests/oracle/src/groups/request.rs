@@ -17,12 +17,7 @@ struct Requests {
 }
 
 pub fn compare(size: Size) -> Vec<Check> {
-    let mut requests = Requests {
-        batch: Check::new("station_parse_sql_batch"),
-        transaction: Check::new("station_parse_transaction_manager_request"),
-        descriptor: Check::new("station_parse_transaction_descriptor_header"),
-        fedauth: Check::new("station_parse_fedauth_token"),
-    };
+    let mut requests = Requests::new();
     let mut random = size.random("request");
     requests.every_short_body();
     requests.every_headers_length(&mut random);
@@ -32,10 +27,31 @@ pub fn compare(size: Size) -> Vec<Check> {
     requests.every_token_message(&mut random);
     requests.headers_of_every_length(size);
     requests.random_requests(&mut random, size);
-    vec![requests.batch, requests.transaction, requests.descriptor, requests.fedauth]
+    requests.checks()
+}
+
+/// One body, read as each kind of request, for tests/fuzz.
+#[allow(dead_code)]
+pub fn compare_one(body: &[u8]) -> Vec<Check> {
+    let mut requests = Requests::new();
+    requests.all(body);
+    requests.checks()
 }
 
 impl Requests {
+    fn new() -> Self {
+        Self {
+            batch: Check::new("station_parse_sql_batch"),
+            transaction: Check::new("station_parse_transaction_manager_request"),
+            descriptor: Check::new("station_parse_transaction_descriptor_header"),
+            fedauth: Check::new("station_parse_fedauth_token"),
+        }
+    }
+
+    fn checks(self) -> Vec<Check> {
+        vec![self.batch, self.transaction, self.descriptor, self.fedauth]
+    }
+
     /// The body, read as each kind of request.
     fn all(&mut self, body: &[u8]) {
         self.batch(body);

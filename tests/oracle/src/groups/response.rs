@@ -33,7 +33,7 @@ pub fn compare(size: Size) -> Vec<Check> {
 
 // Replies of no argument, or of truth values.
 
-fn fixed_replies() -> Vec<Check> {
+pub fn fixed_replies() -> Vec<Check> {
     let mut checks = vec![
         fixed(
             "station_build_prelogin_response",
@@ -106,59 +106,64 @@ fn numbered_replies(size: Size) -> Vec<Check> {
     let mut classification = Check::new("station_build_feature_ext_ack_data_classification");
     let mut routing = Check::new("station_build_feature_ext_ack_enhanced_routing");
     for byte in 0..=0xFF {
-        let reply = limited(build_feature_ext_ack_data_classification(byte));
-        classification.buffer(
-            || format!("{byte}"),
-            &reply,
-            |buffer| station_build_feature_ext_ack_data_classification(byte, buffer),
-        );
-        let reply = limited(build_feature_ext_ack_enhanced_routing(byte));
-        routing.buffer(
-            || format!("{byte}"),
-            &reply,
-            |buffer| station_build_feature_ext_ack_enhanced_routing(byte, buffer),
-        );
+        data_classification(&mut classification, byte);
+        enhanced_routing(&mut routing, byte);
     }
     let mut transaction = Check::new("station_build_transaction_manager_response");
     for request in 0..=u16::MAX {
-        let reply = limited(build_transaction_manager_response(request));
-        transaction.buffer(
-            || format!("{request}"),
-            &reply,
-            |buffer| station_build_transaction_manager_response(request, buffer),
-        );
+        transaction_response(&mut transaction, request);
     }
     let mut checks = vec![classification, routing, transaction];
     checks.extend(dones(size));
     checks
 }
 
+pub fn data_classification(check: &mut Check, version: u8) {
+    let reply = limited(build_feature_ext_ack_data_classification(version));
+    let call =
+        |buffer: &mut [u8]| station_build_feature_ext_ack_data_classification(version, buffer);
+    check.buffer(|| format!("{version}"), &reply, call);
+}
+
+pub fn enhanced_routing(check: &mut Check, byte: u8) {
+    let reply = limited(build_feature_ext_ack_enhanced_routing(byte));
+    let call = |buffer: &mut [u8]| station_build_feature_ext_ack_enhanced_routing(byte, buffer);
+    check.buffer(|| format!("{byte}"), &reply, call);
+}
+
+pub fn transaction_response(check: &mut Check, request: u16) {
+    let reply = limited(build_transaction_manager_response(request));
+    let call = |buffer: &mut [u8]| station_build_transaction_manager_response(request, buffer);
+    check.buffer(|| format!("{request}"), &reply, call);
+}
+
 /// All statuses, and row counts at every border of their bytes.
 fn dones(size: Size) -> Vec<Check> {
-    let mut done = Check::new("station_build_done_token");
+    let mut bare = Check::new("station_build_done_token");
     let mut with_status = Check::new("station_build_done_token_with_status");
     let mut random = size.random("done");
     let borders = (0..64).flat_map(|bit| [(1u64 << bit) - 1, 1 << bit]).chain([u64::MAX]);
     let anything = (0..size.count(1_000, 20_000)).map(|_| random.next());
     let counts: Vec<u64> = borders.chain(anything).collect();
     for count in &counts {
-        let reply = limited(build_done_token(*count));
-        done.buffer(
-            || format!("{count}"),
-            &reply,
-            |buffer| station_build_done_token(*count, buffer),
-        );
+        done(&mut bare, *count);
     }
     for (place, status) in (0..=u16::MAX).enumerate() {
-        let count = counts[place % counts.len()];
-        let reply = limited(build_done_token_with_status(status, count));
-        with_status.buffer(
-            || format!("status {status:04X} count {count}"),
-            &reply,
-            |buffer| station_build_done_token_with_status(status, count, buffer),
-        );
+        done_with_status(&mut with_status, status, counts[place % counts.len()]);
     }
-    vec![done, with_status]
+    vec![bare, with_status]
+}
+
+pub fn done(check: &mut Check, count: u64) {
+    let reply = limited(build_done_token(count));
+    let call = |buffer: &mut [u8]| station_build_done_token(count, buffer);
+    check.buffer(|| format!("{count}"), &reply, call);
+}
+
+pub fn done_with_status(check: &mut Check, status: u16, count: u64) {
+    let reply = limited(build_done_token_with_status(status, count));
+    let call = |buffer: &mut [u8]| station_build_done_token_with_status(status, count, buffer);
+    check.buffer(|| format!("status {status:04X} count {count}"), &reply, call);
 }
 
 // Replies of a list of features.
@@ -180,7 +185,7 @@ fn feature_lists(size: Size) -> Vec<Check> {
     vec![check]
 }
 
-fn feature_list(check: &mut Check, list: &[u8]) {
+pub fn feature_list(check: &mut Check, list: &[u8]) {
     let reply = features_of(list).and_then(|features| limited(build_feature_ext_ack(&features)));
     check.buffer(|| hex(list), &reply, |buffer| station_build_feature_ext_ack(list, buffer));
 }
@@ -233,20 +238,24 @@ fn pairs_of_texts(size: Size) -> Vec<Check> {
     let most_bare = (LONGEST_RESULT - private_build_fedauth_info_token("", "").len()) / 2;
     let random_calls = size.count(10_000, 200_000);
     for texts in text_lists(&mut random, 2, &[most, most_bare], random_calls) {
-        let (url, spn) = (&texts[0], &texts[1]);
-        let input = || format!("url {} spn {}", hex(url), hex(spn));
-        let arguments = argument(url).and_then(|url| Ok((url, argument(spn)?)));
-        let reply = |build: fn(&str, &str) -> BytesMut| {
-            arguments.clone().and_then(|(url, spn)| limited(build(&url, &spn)))
-        };
-        challenge.buffer(input, &reply(build_fedauth_challenge_response), |buffer| {
-            station_build_fedauth_challenge_response(url, spn, buffer)
-        });
-        token.buffer(input, &reply(private_build_fedauth_info_token), |buffer| {
-            station_build_fedauth_info_token(url, spn, buffer)
-        });
+        fedauth_infos([&mut challenge, &mut token], &texts[0], &texts[1]);
     }
     vec![challenge, token]
+}
+
+/// In a packet behind its acknowledgement, and by itself.
+pub fn fedauth_infos([challenge, token]: [&mut Check; 2], url: &[u8], spn: &[u8]) {
+    let input = || format!("url {} spn {}", hex(url), hex(spn));
+    let arguments = argument(url).and_then(|url| Ok((url, argument(spn)?)));
+    let reply = |build: fn(&str, &str) -> BytesMut| {
+        arguments.clone().and_then(|(url, spn)| limited(build(&url, &spn)))
+    };
+    challenge.buffer(input, &reply(build_fedauth_challenge_response), |buffer| {
+        station_build_fedauth_challenge_response(url, spn, buffer)
+    });
+    token.buffer(input, &reply(private_build_fedauth_info_token), |buffer| {
+        station_build_fedauth_info_token(url, spn, buffer)
+    });
 }
 
 /// Lists of `count` text arguments: every choice of short, odd and ill-formed ones; texts of
@@ -313,7 +322,7 @@ fn infos(size: Size) -> Vec<Check> {
     vec![check]
 }
 
-fn info(check: &mut Check, numbers: (u32, u8, u8, u32), texts: [&[u8]; 3]) {
+pub fn info(check: &mut Check, numbers: (u32, u8, u8, u32), texts: [&[u8]; 3]) {
     let [message, server, procedure] = texts;
     let (number, state, severity, line) = numbers;
     let input = || {
@@ -327,6 +336,23 @@ fn info(check: &mut Check, numbers: (u32, u8, u8, u32), texts: [&[u8]; 3]) {
 
 // Errors.
 
+/// A leading and a terminal error, and the error response, which has a text alone.
+pub fn all_errors(checks: [&mut Check; 3], number: u32, severity: u8, text: &[u8]) {
+    let [leading, terminal, response] = checks;
+    let input = || format!("number {number} severity {severity} text {}", hex(text));
+    let tokens = argument(text).map(|text| error_tokens(number, severity, &text));
+    let reply = tokens.clone().and_then(|(leading, _)| limited(leading));
+    leading.buffer(input, &reply, |buffer| {
+        station_build_leading_error_tokens(number, severity, text, buffer)
+    });
+    let reply = tokens.and_then(|(_, terminal)| limited(terminal));
+    terminal.buffer(input, &reply, |buffer| {
+        station_build_terminal_error_tokens(number, severity, text, buffer)
+    });
+    let reply = argument(text).and_then(|text| limited(build_error_response(&text)));
+    response.buffer(|| hex(text), &reply, |buffer| station_build_error_response(text, buffer));
+}
+
 fn errors(size: Size) -> Vec<Check> {
     let mut leading = Check::new("station_build_leading_error_tokens");
     let mut terminal = Check::new("station_build_terminal_error_tokens");
@@ -336,20 +362,8 @@ fn errors(size: Size) -> Vec<Check> {
     let most_bare = (LONGEST_RESULT - error_tokens(0, 0, "").0.len()) / 2;
     let borders = [1, 255, 256, 21_845, 21_846, 21_847, 32_767, most, most_bare];
     for texts in text_lists(&mut random, 1, &borders, size.count(10_000, 200_000)) {
-        let text = &texts[0];
         let (number, severity) = (random.number(), random.byte());
-        let input = || format!("number {number} severity {severity} text {}", hex(text));
-        let tokens = argument(text).map(|text| error_tokens(number, severity, &text));
-        let reply = tokens.clone().and_then(|(leading, _)| limited(leading));
-        leading.buffer(input, &reply, |buffer| {
-            station_build_leading_error_tokens(number, severity, text, buffer)
-        });
-        let reply = tokens.and_then(|(_, terminal)| limited(terminal));
-        terminal.buffer(input, &reply, |buffer| {
-            station_build_terminal_error_tokens(number, severity, text, buffer)
-        });
-        let reply = argument(text).and_then(|text| limited(build_error_response(&text)));
-        response.buffer(|| hex(text), &reply, |buffer| station_build_error_response(text, buffer));
+        all_errors([&mut leading, &mut terminal, &mut response], number, severity, &texts[0]);
     }
     vec![leading, terminal, response]
 }
@@ -368,24 +382,8 @@ fn routes(size: Size) -> Vec<Check> {
     ]
     .map(|reply| (LONGEST_RESULT - reply.len()) / 2);
     for texts in text_lists(&mut random, 2, &most, size.count(10_000, 200_000)) {
-        let (host, database) = (&texts[0], &texts[1]);
         let port = random.pick(&PORTS);
-        let input = || format!("host {} port {port} database {}", hex(host), hex(database));
-        let host_text = argument(host);
-        let reply =
-            host_text.clone().and_then(|host| limited(build_routing_envchange_token(&host, port)));
-        token.buffer(input, &reply, |buffer| {
-            station_build_routing_envchange_token(host, port, buffer)
-        });
-        let reply = host_text.clone().and_then(|host| limited(build_routing_response(&host, port)));
-        response.buffer(input, &reply, |buffer| station_build_routing_response(host, port, buffer));
-        let reply = host_text.and_then(|host| {
-            let database = argument(database)?;
-            limited(build_enhanced_routing_envchange_token(&host, port, &database))
-        });
-        enhanced.buffer(input, &reply, |buffer| {
-            station_build_enhanced_routing_envchange_token(host, port, database, buffer)
-        });
+        all_routes([&mut token, &mut response, &mut enhanced], &texts[0], port, &texts[1]);
     }
     vec![token, response, enhanced]
 }
@@ -429,6 +427,43 @@ fn every_routing(check: &mut Check) {
             }
         }
     }
+}
+
+/// A plain route as a token and as a response, and a route to a database.
+pub fn all_routes(checks: [&mut Check; 3], host: &[u8], port: u16, database: &[u8]) {
+    let [token, response, enhanced] = checks;
+    let input = || format!("host {} port {port} database {}", hex(host), hex(database));
+    let host_text = argument(host);
+    let reply =
+        host_text.clone().and_then(|host| limited(build_routing_envchange_token(&host, port)));
+    token.buffer(input, &reply, |buffer| station_build_routing_envchange_token(host, port, buffer));
+    let reply = host_text.clone().and_then(|host| limited(build_routing_response(&host, port)));
+    response.buffer(input, &reply, |buffer| station_build_routing_response(host, port, buffer));
+    let reply = host_text.and_then(|host| {
+        let database = argument(database)?;
+        limited(build_enhanced_routing_envchange_token(&host, port, &database))
+    });
+    enhanced.buffer(input, &reply, |buffer| {
+        station_build_enhanced_routing_envchange_token(host, port, database, buffer)
+    });
+}
+
+/// A routed login by the number of its acknowledgement, 256 and above for none, for tests/fuzz.
+#[allow(dead_code)]
+pub fn routed_login(
+    check: &mut Check,
+    (host, port): (&[u8], u16),
+    list: &[u8],
+    (login_ack, ack, ack_before): (bool, u16, bool),
+) {
+    let routing = Routing { host, port, login_ack, ack: ack.try_into().ok(), ack_before };
+    let input = || {
+        let (host, list) = (hex(host), hex(list));
+        format!("host {host} port {port} routes {list} {login_ack} ack {ack} {ack_before}")
+    };
+    check.buffer(input, &routing_reply(routing, list), |buffer| {
+        station_build_routing_login_response(host, port, list, login_ack, ack, ack_before, buffer)
+    });
 }
 
 /// Replies of 65,535 bytes and around it, by the host, a database text, and the number of routes.

@@ -27,22 +27,7 @@ struct Results {
 }
 
 pub fn compare(size: Size) -> Vec<Check> {
-    let mut results = Results {
-        builders: [
-            (Check::new("station_build_query_results"), station_build_query_results),
-            (Check::new("station_build_query_result"), station_build_query_result),
-            (
-                Check::new("station_build_query_result_with_trailing_info"),
-                station_build_query_result_with_trailing_info,
-            ),
-            (
-                Check::new("station_build_query_result_with_extras"),
-                station_build_query_result_with_extras,
-            ),
-        ],
-        room: Check::new("station_room"),
-        fit: Check::new("station_fit"),
-    };
+    let mut results = Results::new();
     let mut random = size.random("result");
     results.every_order(size.count(3, 4));
     results.every_payload_length(&mut random);
@@ -63,7 +48,34 @@ pub fn compare(size: Size) -> Vec<Check> {
     results.checks()
 }
 
+/// One script, for tests/fuzz.
+#[allow(dead_code)]
+pub fn compare_one(script: &[u8]) -> Vec<Check> {
+    let mut results = Results::new();
+    results.script(script);
+    results.checks()
+}
+
 impl Results {
+    fn new() -> Self {
+        Self {
+            builders: [
+                (Check::new("station_build_query_results"), station_build_query_results),
+                (Check::new("station_build_query_result"), station_build_query_result),
+                (
+                    Check::new("station_build_query_result_with_trailing_info"),
+                    station_build_query_result_with_trailing_info,
+                ),
+                (
+                    Check::new("station_build_query_result_with_extras"),
+                    station_build_query_result_with_extras,
+                ),
+            ],
+            room: Check::new("station_room"),
+            fit: Check::new("station_fit"),
+        }
+    }
+
     fn checks(self) -> Vec<Check> {
         let builders = self.builders.into_iter().map(|(check, _)| check);
         builders.chain([self.room, self.fit]).collect()

@@ -12,6 +12,20 @@ pub fn compare(size: Size) -> Vec<Check> {
     vec![white_space(), texts(size)]
 }
 
+/// One text and its first unit, for tests/fuzz.
+#[allow(dead_code)]
+pub fn compare_one(bytes: &[u8]) -> Vec<Check> {
+    let mut text = Check::new("station_text");
+    compare_text(&mut text, bytes);
+    let mut white_space = Check::new("station_is_whitespace");
+    if let Some(unit) = utf16::units(bytes).first().copied() {
+        let blank = char::from_u32(unit.into()).is_some_and(char::is_whitespace);
+        let call = || station_is_whitespace(unit);
+        white_space.number(|| format!("{unit:04X}"), Ok(blank.into()), call);
+    }
+    vec![white_space, text]
+}
+
 fn white_space() -> Check {
     let mut check = Check::new("station_is_whitespace");
     for unit in 0..=u16::MAX {

@@ -79,7 +79,7 @@ fn random_login_text(random: &mut Random) -> Vec<u8> {
     utf16::bytes(&text)
 }
 
-fn random_feature(random: &mut Random) -> Feature {
+pub fn random_feature(random: &mut Random) -> Feature {
     let id = random.pick(&[0x01, 0x02, 0x02, 0x09, 0x0F, 0x10, 0x10, 0x55]);
     let data = match id {
         0x02 => random_fedauth(random),

@@ -1,0 +1,128 @@
+//! Mutations that keep an input's shape: of a script record by record with right lengths, of a login
+//! with its table of offsets and its features; at times another input of the oracle's. Half of all
+//! mutations are libFuzzer's own, on the bytes.
+
+use crate::inputs::login::{random_feature, random_login, scattered_login};
+use crate::inputs::request::*;
+use crate::inputs::script::{damaged, random_record, random_script};
+use crate::random::Random;
+use crate::script::records::{self, Record};
+
+/// libFuzzer's own mutation: the bytes changed, to at most so many.
+pub type Own<'a> = &'a mut dyn FnMut(&[u8], usize) -> Vec<u8>;
+
+/// The input of the target changed, to at most so many bytes.
+pub fn mutated(target: &str, input: &[u8], most: usize, seed: u64, own: Own) -> Vec<u8> {
+    let mut random = Random::new(seed, "mutate");
+    let shaped = match target {
+        _ if random.one_in(2) => None,
+        "script" => Some(script(&mut random, input, most, own)),
+        "login" => Some(login(&mut random, input)),
+        "request" if random.one_in(8) => Some(request(&mut random)),
+        _ => None,
+    };
+    shaped.filter(|bytes| bytes.len() <= most).unwrap_or_else(|| own(input, most))
+}
+
+/// The script with one record changed, added, taken away or moved, or a run of them repeated; at times
+/// another script.
+fn script(random: &mut Random, input: &[u8], most: usize, own: Own) -> Vec<u8> {
+    let (mut script, tail) = split(input);
+    if script.is_empty() {
+        script.push(records::set(&[]));
+    }
+    let place = random.below(script.len());
+    let other = random.within(0, script.len());
+    match random.below(20) {
+        0 => return records::written(&random_script(random)),
+        1 => {
+            let good = random_script(random);
+            return damaged(random, &good);
+        }
+        2..=8 => {
+            let room = most.saturating_sub(input.len()) + script[place].payload.len();
+            script[place].payload = own(&script[place].payload, room.max(1));
+        }
+        9..=12 => script.insert(other, random_record(random)),
+        13 | 14 => {
+            script.remove(place);
+        }
+        15 | 16 => {
+            let moved = script.remove(place);
+            script.insert(other.min(script.len()), moved);
+        }
+        _ => {
+            let run = place..random.within(place, script.len().min(place + 6));
+            let run = script[run].to_vec();
+            script.splice(other..other, run);
+        }
+    }
+    [records::written(&script), tail.to_vec()].concat()
+}
+
+/// The whole records at the front, and the bytes behind them.
+fn split(mut bytes: &[u8]) -> (Vec<Record>, &[u8]) {
+    let mut script = Vec::new();
+    while let Ok((kind, payload, rest)) = records::first(bytes) {
+        script.push(Record::new(kind, payload));
+        bytes = rest;
+    }
+    (script, bytes)
+}
+
+/// Another request of one of the kinds.
+fn request(random: &mut Random) -> Vec<u8> {
+    let makers = [random_batch, random_transaction, random_descriptor, random_token_message];
+    random.pick(&makers)(random)
+}
+
+/// The login with a table entry or the place of its features moved, or with a feature more; at times
+/// another login.
+fn login(random: &mut Random, input: &[u8]) -> Vec<u8> {
+    let length = input.len();
+    let mut body = input.to_vec();
+    match random.below(8) {
+        0 => return random_login(random),
+        1 => {
+            let length = random.within(0, 200);
+            return scattered_login(random, length);
+        }
+        2 | 3 => {
+            let entry = random.pick(&[52, 54, 56, 68, 70]);
+            let number = random.within(0, length + 2) as u16;
+            put(&mut body, entry, &number.to_le_bytes());
+        }
+        4 => {
+            let pointer = number_at(&body, 56);
+            let place = random.within(0, length + 2) as u32;
+            put(&mut body, pointer, &place.to_le_bytes());
+        }
+        _ => {
+            let place = feature_place(random, &body);
+            body.splice(place..place, random_feature(random).bytes());
+        }
+    }
+    body
+}
+
+/// A place between two features, or the end of the body.
+fn feature_place(random: &mut Random, body: &[u8]) -> usize {
+    let pointer = number_at(body, 56);
+    let mut place = number_at(body, pointer);
+    while place + 5 <= body.len() && body[place] != 0xFF && !random.one_in(3) {
+        place += 5 + number_at(body, place + 1);
+    }
+    place.min(body.len())
+}
+
+/// The two bytes there as a number, the lower one first; 0 past the end.
+fn number_at(body: &[u8], place: usize) -> usize {
+    let byte = |place: usize| usize::from(body.get(place).copied().unwrap_or(0));
+    byte(place) | byte(place + 1) << 8
+}
+
+fn put(body: &mut [u8], place: usize, bytes: &[u8]) {
+    for (old, byte) in body.iter_mut().skip(place).zip(bytes) {
+        *old = *byte;
+    }
+}
