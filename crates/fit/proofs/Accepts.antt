@@ -5,6 +5,7 @@ use mathlib.Core.List.{List}
 use native.Mathlib.Omega.{arith}
 use lib.Dec.{eqb}
 use lib.ListN.{length}
+use Rattle.wire.proofs.Cases.{by-test}
 use Rattle.script.specs.Records.{records}
 use Rattle.result.specs.declared.Measure.{Measure}
 use Rattle.result.specs.Emission.{replyOf}
@@ -12,19 +13,18 @@ use Rattle.result.specs.Refusal.{refusalOf}
 use Rattle.result.specs.Room.{measureOf}
 use Rattle.fit.specs.Misfits.{misfits, firstOf, fitOf}
 use Rattle.fit.specs.declared.Fit.the-variants.{Refused}
-use Rattle.fit.proofs.Inverts.{either}
 
 module _ (s : List ℕ) {n : ℕ} where
   pub refused : measureOf s ≡ Measure.Refused n → Refused n ≡ fitOf s
   unfolding measureOf fitOf
   refused e =
-      either (eqb (refusalOf s) 0)
+      by-test (eqb (refusalOf s) 0)
       (λ h. let c : _≡_ (Measure.Size (length (replyOf s))) (Measure.Refused n) = rw h at e in let z : _≡_ {A = ℕ} 0 1 = cc in absurd (omega arith))
       (λ h. let c : _≡_ (Measure.Refused (refusalOf s)) (Measure.Refused n) = rw h at e in let z : refusalOf s ≡ n = cc in rw (h, z))
 
   pub accepted : measureOf s ≡ Measure.Size n → firstOf (misfits (records s)) ≡ fitOf s
   unfolding measureOf fitOf
   accepted e =
-      either (eqb (refusalOf s) 0)
+      by-test (eqb (refusalOf s) 0)
       (λ h. rw h)
       (λ h. let c : _≡_ (Measure.Refused (refusalOf s)) (Measure.Size n) = rw h at e in let z : _≡_ {A = ℕ} 0 1 = cc in absurd (omega arith))

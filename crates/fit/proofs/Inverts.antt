@@ -10,6 +10,7 @@ use native.Mathlib.Omega.{arith}
 use lib.Dec.{eqb, leb, ltb}
 use lib.ListN.{length, drop}
 use borrow.Author.Tests.{ne-eqb, eqb-true, eqb-false, leb-true, ltb-true, not-true}
+use Rattle.wire.proofs.Cases.{by-test}
 use Rattle.wire.specs.Le.{leAt}
 use Rattle.text.specs.Surrogates.{hasPair}
 use Rattle.script.specs.Records.{Item, item, records}
@@ -85,11 +86,6 @@ module _ (types : List ℕ) (k : ℕ) (p : List ℕ) (rs : List Item) (m : Match
   unfolding cellsIn
   match-over h g = match-end (rw (h, g) at m)
 
--- a test, by what it says
-pub either : {X : Type 0} (b : Bool) → (b ≡ true → X) → (b ≡ false → X) → X
-either true f g = f refl
-either false f g = g refl
-
 -- the value of a cell and the type of its column
 pub data Suits (t : ℕ) (p : List ℕ) : Type 0 where
   number : 1 ≤ leAt 1 p → leAt 1 p ≤ 4 → t ≡ leAt 1 p → Suits t p
@@ -108,7 +104,7 @@ module _ (t : ℕ) (p : List ℕ) (shape : cellShaped p ≡ true) (fits : cellFi
   unfolding cellFits cellShaped
   same h5 h7 h8 h9 h10 =
       let e = eqb-true t v (rw (ne-eqb v 5 h5, ne-eqb v 7 h7, ne-eqb v 8 h8, ne-eqb v 9 h9, ne-eqb v 10 h10) at fits) in
-      either (leb 1 v && leb v 4)
+      by-test (leb 1 v && leb v 4)
       (λ h. let b = and-eq-true-iff (leb 1 v) (leb v 4) .0 h in number (leb-true 1 v (b .0)) (leb-true v 4 (b .1)) e)
       (λ h. let b = and-eq-true-iff (leb 6 v && leb v 10) (eqb (length p) 1) .0 (rw (h, ne-eqb v 5 h5) at shape) in
       let r = and-eq-true-iff (leb 6 v) (leb v 10) .0 (b .0) in
@@ -120,15 +116,15 @@ module _ (t : ℕ) (p : List ℕ) (shape : cellShaped p ≡ true) (fits : cellFi
   pub suits : Suits t p
   unfolding cellFits
   suits =
-      either (eqb v 5)
+      by-test (eqb v 5)
       (λ h. let b = and-eq-true-iff (eqb t 5) (leb (length (drop 1 p)) 8000) .0 (rw h at fits) in text (eqb-true v 5 h) (eqb-true t 5 (b .0)) (leb-true (length (drop 1 p)) 8000 (b .1)))
-      (λ h5. either (eqb v 7)
+      (λ h5. by-test (eqb v 7)
       (λ h. let b = and-eq-true-iff (leb 6 t) (leb t 8) .0 (rw (h5, h) at fits) in noMax (eqb-true v 7 h) (leb-true 6 t (b .0)) (leb-true t 8 (b .1)))
-      (λ h7. either (eqb v 8)
+      (λ h7. by-test (eqb v 8)
       (λ h. varcharMax (eqb-true v 8 h) (eqb-true t 7 (rw (h5, h7, h) at fits)))
-      (λ h8. either (eqb v 9)
+      (λ h8. by-test (eqb v 9)
       (λ h. varbinaryMax (eqb-true v 9 h) (eqb-true t 8 (rw (h5, h7, h8, h) at fits)))
-      (λ h9. either (eqb v 10)
+      (λ h9. by-test (eqb v 10)
       (λ h. let b = and-eq-true-iff (leb 1 t) (leb t 4) .0 (rw (h5, h7, h8, h9, h) at fits) in noNumber (eqb-true v 10 h) (leb-true 1 t (b .0)) (leb-true t 4 (b .1)))
       (λ h10. same (eqb-false v 5 h5) (eqb-false v 7 h7) (eqb-false v 8 h8) (eqb-false v 9 h9) (eqb-false v 10 h10))))))
 
@@ -182,6 +178,6 @@ none-first (m ∷ ms) e = let z : _≡_ {A = ℕ} 0 1 = cc in absurd (omega arit
 pub fits-yes : (s : List ℕ) → fitOf s ≡ Yes → (refusalOf s ≡ 0) × (misfits (records s) ≡ [])
 unfolding fitOf
 fits-yes s e =
-    either (eqb (refusalOf s) 0)
+    by-test (eqb (refusalOf s) 0)
     (λ h. (eqb-true (refusalOf s) 0 h, none-first (misfits (records s)) (rw h at e)))
     (λ h. let c : _≡_ (Refused (refusalOf s)) Yes = rw h at e in let z : _≡_ {A = ℕ} 0 1 = cc in absurd (omega arith))

@@ -3,13 +3,13 @@ use mathlib.Core.Path.{_≡_, refl, sym, ap, _∙_}
 use mathlib.Core.List.{List, [], _∷_}
 use mathlib.Core.Bool.{cond}
 use Prim.Native.Nat.{ℕ, zero, suc, _+_, _-_, _≤_, _<_, min}
-use native.Mathlib.Nat.{zero-add, add-zero, add-suc, suc-add, lt-of-not-le}
-use native.Mathlib.Decide.{decLe}
+use native.Mathlib.Nat.{zero-add, add-zero, add-suc, suc-add}
 use native.Mathlib.Omega.{arith}
 use lib.ListN.{length, drop, getD, length-drop}
 use lib.Seq.{drop-drop, getD-drop}
 use lib.Dec.{eqb}
 use borrow.Author.Tests.{eq-eqb, ne-eqb}
+use Rattle.wire.proofs.Cases.{split}
 use Rattle.wire.specs.Le.{leAt}
 use Rattle.login.specs.declared.Feature.{Feature}
 use Rattle.login.specs.declared.Found.{Found}
@@ -64,10 +64,6 @@ module _ (s : List ℕ) (at : ℕ) where
   pub found : 5 ≤ length s - at → (getD s at 0 ≡ 0xff → ⊥) → featuresFrom s at ≡ follow s (Here (featureOf s at))
   unfolding featuresFrom follow
   found h e = rw (head at (drop at s) (simp length-drop h), first, ne-eqb _ _ e, drop-drop 1 at s, drop-drop 5 at s) (ap (_∷_ (featureOf s at)) (pass (leAt 4 (drop (at + 1) s)) (at + 5) (drop (at + 5) s) ∙ rw drop-drop))
-
--- a place past the end is like the end
-split {ℓ} : {X : Type ℓ} (a b : ℕ) → (a ≤ b → X) → (b < a → X) → X
-split a b f g = elim (decLe a b) [ yes h ↦ f h | no h ↦ g (lt-of-not-le h) ]
 
 pub past : (s : List ℕ) (at : ℕ) → featuresFrom s (min at (length s)) ≡ featuresFrom s at
 past s at =

@@ -1,6 +1,6 @@
 -- What a position that can be tells: where it stands, and of which types are the columns that it holds. Assumes nothing.
-use mathlib.Core.Path.{_≡_, refl, ap}
-use mathlib.Core.Bool.{Bool, true, false, _&&_}
+use mathlib.Core.Path.{_≡_, ap}
+use mathlib.Core.Bool.{Bool, true, _&&_}
 use mathlib.Core.List.{List}
 use Prim.Native.Nat.{ℕ, zero, suc, _-_, _≤_, _<_}
 use native.Mathlib.Omega.{arith}
@@ -9,15 +9,11 @@ use native.Mathlib.Nat.{lt-of-not-le}
 use lib.Dec.{leb}
 use lib.ListN.{getD}
 use borrow.Author.Tests.{leb-true}
+use Rattle.reader.proofs.Types.{both}
 use Rattle.reader.specs.declared.Position.{Position}
 use Rattle.reader.specs.Places.{inPacket}
 use Rattle.reader.specs.Cells.{isType}
 use Rattle.reader.specs.Positions.{held, stands}
-use Rattle.reader.proofs.CodeReads.{clash}
-
-pub both : (a b : Bool) → (a && b) ≡ true → (a ≡ true) × (b ≡ true)
-both true b e = (refl, e)
-both false b e = clash (cc)
 
 -- ---- held types
 

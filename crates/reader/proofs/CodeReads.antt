@@ -4,12 +4,11 @@ use mathlib.Core.Path.{_≡_, refl, _∙_}
 use mathlib.Core.Bool.{Bool, true, false, cond}
 use mathlib.Core.List.{List}
 use Prim.Native.Nat.{ℕ, _+_, _-_, _≤_, _<_, _^_}
-use native.Mathlib.Nat.{lt-of-not-le}
-use native.Mathlib.Decide.{decLe}
 use native.Mathlib.Omega.{arith}
 use lib.Dec.{leb}
 use lib.ListN.{length, drop}
 use borrow.Author.Tests.{le-leb, lt-leb}
+use Rattle.wire.proofs.Cases.{split}
 use Rattle.wire.specs.Le.{leAt}
 use Rattle.wire.specs.declared.Part.{Part}
 use Rattle.reader.specs.declared.TypeInfo.{TypeInfo}
@@ -104,9 +103,6 @@ unfolding then
 part-then n p at go = part-over go n p at go whole (λ part to. refl)
 
 -- ---- the leaves
-
-split {ℓ} : {X : Type ℓ} (a b : ℕ) → (a ≤ b → X) → (b < a → X) → X
-split a b f g = elim (decLe a b) [ yes h ↦ f h | no h ↦ g (lt-of-not-le h) ]
 
 -- n bytes stand behind a place where they are not more than what is left
 pub reaches : (at n len : ℕ) → at ≤ len → leb n (len - at) ≡ leb (at + n) len

@@ -4,12 +4,11 @@ use Prim.Native.Nat.{ℕ, zero, suc, _+_, _≤_, _<_}
 use mathlib.Core.Path.{_≡_, refl, sym, ap, _∙_}
 use mathlib.Core.Bool.{cond}
 use mathlib.Core.List.{List}
-use native.Mathlib.Nat.{lt-of-not-le}
-use native.Mathlib.Decide.{decLe}
 use native.Mathlib.Omega.{arith}
 use lib.ListN.{length}
 use lib.Dec.{eqb}
 use borrow.Author.Tests.{ne-eqb, lt-ltb, le-ltb}
+use Rattle.wire.proofs.Cases.{split}
 use Rattle.wire.specs.Over.{Wrote}
 use Rattle.wire.proofs.Over.{then}
 use Rattle.packet.specs.Reply.{replyHeader, packetOf}
@@ -22,9 +21,6 @@ use Rattle.response.specs.Sizes.{Same}
 -- a builder's two promises: its answer r and what it left in the buffer
 abbrev pub Ended : Reply → List ℕ → List ℕ → Built → Type 0
 Ended p buf left r = (r ≡ builtOf p buf) × (left ≡ bufferOf p buf)
-
-split {ℓ} : {X : Type ℓ} (a b : ℕ) → (a ≤ b → X) → (b < a → X) → X
-split a b f g = elim (decLe a b) [ yes h ↦ f h | no h ↦ g (lt-of-not-le h) ]
 
 -- a size counts only where nothing refuses before it
 same-refusal : (fault m n room : ℕ) → (fault ≡ 0 → Same m n) → refusalOf fault m room ≡ refusalOf fault n room

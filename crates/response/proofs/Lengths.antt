@@ -7,13 +7,14 @@ use native.Mathlib.Omega.{arith}
 use lib.ListN.{length, length-drop, length-append}
 use native.Mathlib.Nat.{add-zero, zero-add}
 use borrow.Author.Tests.{lt-ltb, le-ltb}
+use Rattle.token.proofs.Sizes.{size-done}
 use Rattle.wire.specs.Le.{le, leAt}
 use Rattle.wire.specs.Be.{be}
 use Rattle.wire.specs.Fields.{flat}
 use Rattle.wire.proofs.Be.{length-be}
 use Rattle.script.specs.Records.{Item}
 use Rattle.wire.proofs.Fields.{size-word, size-raw}
-use Rattle.token.specs.Tokens.{usVarchar, done, message, bytesOf}
+use Rattle.token.specs.Tokens.{usVarchar}
 use Rattle.response.specs.Login.{feature, loginAck, wide, fedauthInfo}
 use Rattle.response.specs.Routing.{target, plainRoute, databaseRoute}
 use Rattle.response.specs.Lists.{itemBytes, listBytes, featureExtAck}
@@ -48,14 +49,6 @@ unfolding itemBytes itemSize
 item-size host port k p = simp (length-cond, plain-size, database-size, feature-size)
 
 -- ---- tokens
-
-pub done-size : (status command rows : ℕ) → length (bytesOf (done status command rows)) ≡ 13
-unfolding bytesOf
-done-size status command rows = simp (size-word, size-nil)
-
-pub message-size : (k n s c : ℕ) (t v p : List ℕ) (l : ℕ) → length (bytesOf (message k n s c t v p l)) ≡ 17 + length t + length v + length p
-unfolding bytesOf
-message-size k n s c t v p l = simp (size-word, size-raw, size-nil) (omega arith)
 
 pub error-size : (m : List ℕ) → length (flat (errorFields m)) ≡ 17 + length m
 error-size m = simp (size-word, size-raw, size-nil, length-be) (omega arith)
@@ -97,7 +90,7 @@ acks-size false ack = zero-add _
 tokens-size : (host : List ℕ) (port : ℕ) (rs : List Item) (login : Bool) (ack : ℕ) (before : Bool)
     → length (routingTokens host port rs login ack before) ≡ length (cond login loginAck []) + length (routingAck true ack) + length (listBytes host port rs) + 13
 unfolding routingTokens
-tokens-size host port rs login ack before = simp (length-append, done-size) (omega (arith, acks-size before ack))
+tokens-size host port rs login ack before = simp (length-append, size-done) (omega (arith, acks-size before ack))
 
 -- ---- sizes that were worked out, as far as they count
 

@@ -19,7 +19,7 @@ use Rattle.result.specs.Emission.{pieces, bytesIn, replyOf}
 use Rattle.result.specs.Refusal.{refusalOf, builtOf, bufferOf}
 use Rattle.result.specs.declared.Room.the-variants.{Bytes, Denied}
 use Rattle.result.specs.Room.{measureOf, isRoom}
-use Rattle.result.proofs.Turns.{by-test}
+use Rattle.wire.proofs.Cases.{by-test}
 
 module _ (s : List ℕ) (buf : List ℕ) where
   -- a refused script

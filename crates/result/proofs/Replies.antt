@@ -7,6 +7,7 @@ use native.Mathlib.Nat.{add-sub-cancel-left}
 use native.Mathlib.Omega.{arith}
 use lib.ListN.{length, take, drop}
 use borrow.Author.Tests.{ne-eqb, lt-ltb, le-ltb}
+use Rattle.token.proofs.Sizes.{size-done, size-message}
 use Rattle.wire.specs.Le.{leAt}
 use Rattle.packet.proofs.Sizes.{length-packet}
 use Rattle.script.specs.declared.Found.the-variants.{Record, Cut, End}
@@ -20,7 +21,7 @@ use Rattle.result.specs.Emission.{Piece, told, errorToken, doneToken, er
 use Rattle.result.specs.Refusal.{faultIn, refusalOf}
 use Rattle.result.specs.Room.{measureOf}
 use Rattle.result.specs.Inner.{capped, Turned, Sizes}
-use Rattle.result.proofs.Sizes.{size-told, size-nothing, size-cat, size-done, size-message, fault-cat, cap-left, cap-right, cap-three, cap-same, cap-of}
+use Rattle.result.proofs.Sizes.{size-told, size-nothing, size-cat, fault-cat, cap-left, cap-right, cap-three, cap-same, cap-of}
 
 -- ---- one part after another
 

@@ -9,7 +9,7 @@ use lib.ListN.{length, length-append}
 use Rattle.wire.specs.Fields.{flat}
 use Rattle.wire.proofs.Fields.{size-none, size-word, size-raw}
 use Rattle.token.specs.Types.{lengthWidth}
-use Rattle.token.specs.Tokens.{Token, metadata, column, row, cell, done, message, Sent, integer, noInteger, bounded, long, noLong, putChunks, bytesOf}
+use Rattle.token.specs.Tokens.{Token, metadata, column, row, cell, Sent, integer, noInteger, bounded, long, noLong, putChunks, bytesOf}
 use Rattle.token.proofs.Puts.{bytes-before}
 use Rattle.result.specs.Emission.{Piece, told, classified, putPieces, bytesIn}
 use Rattle.result.specs.Refusal.{pieceFault, faultIn}
@@ -59,10 +59,6 @@ pub size-column : (u f c l : ℕ) (o n : List ℕ) → length (bytesOf (column u
 unfolding bytesOf
 size-column u f c l o n = simp (size-word, size-raw, size-none) (omega arith)
 
-pub size-done : (s c n : ℕ) → length (bytesOf (done s c n)) ≡ 13
-unfolding bytesOf
-size-done s c n = simp (size-word, size-none)
-
 pub size-metadata : (n : ℕ) → length (bytesOf (metadata n)) ≡ 3
 unfolding bytesOf
 size-metadata n = simp (size-word, size-none)
@@ -70,10 +66,6 @@ size-metadata n = simp (size-word, size-none)
 pub size-row : length (bytesOf row) ≡ 1
 unfolding bytesOf
 size-row = simp (size-word, size-none)
-
-pub size-message : (k n s c : ℕ) (t v p : List ℕ) (l : ℕ) → length (bytesOf (message k n s c t v p l)) ≡ 17 + length t + length v + length p
-unfolding bytesOf
-size-message k n s c t v p l = simp (size-word, size-raw, size-none) (omega arith)
 
 pub size-integer : (w n : ℕ) → length (bytesOf (cell (integer w n))) ≡ 1 + w
 unfolding bytesOf

@@ -1,12 +1,14 @@
 -- A turn of the walk over a script's records: what it emits, and where the walk goes on. Assumes nothing.
 use mathlib.Core.Path.{_≡_, refl, sym, ap, _∙_}
-use mathlib.Core.Bool.{Bool, true, false, cond}
+use mathlib.Core.Bool.{cond}
 use mathlib.Core.List.{List, [], _∷_, _++_}
 use Prim.Native.Nat.{ℕ, zero, suc, _+_, _≤_}
 use native.Mathlib.Omega.{arith}
 use lib.Dec.{eqb, eqb·suc-zero}
 use lib.ListN.{length, drop, length-append}
 use borrow.Author.Tests.{eqb-true}
+use Rattle.token.proofs.Sizes.{size-done}
+use Rattle.wire.proofs.Cases.{by-test}
 use Rattle.token.specs.Tokens.{Token, metadata, cell, Sent, long, bytesOf}
 use Rattle.script.specs.Records.{Item, item, cut, records}
 use Rattle.result.specs.declared.Run.{Run}
@@ -15,12 +17,7 @@ use Rattle.result.specs.Runs.{ahead, behind}
 use Rattle.result.specs.Emission.{Piece, told, classified, columnToken, columnPieces, setPieces, piecesOf, rowsAfter, emitFrom, bytesIn, doneToken, moreStatus}
 use Rattle.result.specs.Refusal.{tokenFault, faultIn, anyEmpty}
 use Rattle.result.specs.Inner.{capped, recordSize, recordFault, runSize, runFault, behindDone, Ahead, GoesOn, Turned}
-use Rattle.result.proofs.Sizes.{bytes-none, bytes-told, size-told, size-class, size-nothing, size-cat, fault-cat, size-metadata, size-done, size-long, cap-both, cap-right, cap-same, cap-of}
-
--- by the two answers of a test
-pub by-test {ℓ} : {X : Type ℓ} (b : Bool) → (b ≡ true → X) → (b ≡ false → X) → X
-by-test true f g = f refl
-by-test false f g = g refl
+use Rattle.result.proofs.Sizes.{bytes-none, bytes-told, size-told, size-class, size-nothing, size-cat, fault-cat, size-metadata, size-long, cap-both, cap-right, cap-same, cap-of}
 
 -- ---- records that emit nothing by themselves are passed over
 

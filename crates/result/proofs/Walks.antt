@@ -9,6 +9,7 @@ use native.Mathlib.Omega.{arith}
 use lib.Dec.{eqb}
 use lib.ListN.{length, take, drop}
 use borrow.Author.Tests.{eq-eqb, ne-eqb}
+use Rattle.token.proofs.Sizes.{size-done}
 use Rattle.wire.specs.Part.{bytesOf}
 use Rattle.script.specs.declared.Found.the-variants.{Record, Cut, End}
 use Rattle.script.specs.Records.{Item, item, cut, records, recordAt}
@@ -17,8 +18,8 @@ use Rattle.result.specs.declared.Turn.{Turn}
 use Rattle.result.specs.Emission.{Piece, told, piecesOf, rowsAfter, emitFrom, errorIn, bytesIn, doneToken, lastStatus, moreStatus, setPieces}
 use Rattle.result.specs.Refusal.{faultIn}
 use Rattle.result.specs.Inner.{capped, Turned}
-use Rattle.result.proofs.Sizes.{size-told, size-nothing, size-cat, size-done, fault-cat, cap-left, cap-three, cap-same}
-use Rattle.result.proofs.Turns.{by-test}
+use Rattle.result.proofs.Sizes.{size-told, size-nothing, size-cat, fault-cat, cap-left, cap-three, cap-same}
+use Rattle.wire.proofs.Cases.{by-test}
 
 -- ---- faults and sizes do not depend on the count of rows
 

@@ -9,6 +9,7 @@ use native.Mathlib.Omega.{arith}
 use lib.Dec.{eqb, eqb·suc-zero}
 use lib.ListN.{length, drop}
 use borrow.Author.Tests.{eqb-true, ltb-false}
+use Rattle.wire.proofs.Cases.{by-test}
 use Rattle.text.specs.Surrogates.{wellFormed}
 use Rattle.token.specs.Tokens.{unitCount}
 use Rattle.script.specs.declared.Stage.{Stage}
@@ -22,7 +23,6 @@ use Rattle.result.specs.Emission.{Piece, errorIn}
 use Rattle.result.specs.Refusal.{longName, pieceFault, faultIn}
 use Rattle.result.proofs.Sizes.{fault-cat}
 use Rattle.fit.specs.Misfits.{cellsIn}
-use Rattle.fit.proofs.Inverts.{either}
 use Rattle.round_trip.specs.Octets.{Bytes}
 use Rattle.round_trip.proofs.Ranges.{Payloads}
 
@@ -94,7 +94,7 @@ no-cells st [] g h e = refl
 no-cells st (cut ∷ rs) g h e = refl
 no-cells st (item k p ∷ rs) g h e =
     let t = taken st k p rs e in
-    either (eqb k 5) (λ f. other 5 g f (t .order)) (λ f5. either (eqb k 6) (λ f. other 6 h f (t .order)) (λ f6. rw (f5, f6)))
+    by-test (eqb k 5) (λ f. other 5 g f (t .order)) (λ f5. by-test (eqb k 6) (λ f. other 6 h f (t .order)) (λ f6. rw (f5, f6)))
   where
     other : {X : Type 0} (j : ℕ) → allowed st j ≡ false → eqb k j ≡ true → allowed st k ≡ true → X
     other j g f o =
@@ -116,7 +116,7 @@ pub columned : (st : Stage) (rs : List Item) → verdictFrom st rs ≡ 0 → Col
 unfolding ahead
 columned st [] e = tt
 columned st (cut ∷ rs) e = tt
-columned st (item k p ∷ rs) e = either (eqb k 2) (λ h. rw h (let c = column-is st p rs (rw (eqb-true k 2 h) at e) in (c .0, c .1, columned (stageAfter st 2 p) rs (c .2)))) (λ h. rw h tt)
+columned st (item k p ∷ rs) e = by-test (eqb k 2) (λ h. rw h (let c = column-is st p rs (rw (eqb-true k 2 h) at e) in (c .0, c .1, columned (stageAfter st 2 p) rs (c .2)))) (λ h. rw h tt)
 
 -- chunks of whole units
 abbrev pub Whole : List (List ℕ) → Type 0
@@ -131,7 +131,7 @@ pub whole : (rs : List Item) → verdictFrom TextChunks rs ≡ 0 → Whole (ahea
 unfolding ahead
 whole [] e = tt
 whole (cut ∷ rs) e = tt
-whole (item k p ∷ rs) e = either (eqb k 6) (λ h. rw h (let c = chunk-is p rs (rw (eqb-true k 6 h) at e) in (c .0, whole rs (c .1)))) (λ h. rw h tt)
+whole (item k p ∷ rs) e = by-test (eqb k 6) (λ h. rw h (let c = chunk-is p rs (rw (eqb-true k 6 h) at e) in (c .0, whole rs (c .1)))) (λ h. rw h tt)
 
 -- ---- errors
 
@@ -147,9 +147,9 @@ module _ (k : ℕ) (texts-are : (p : List ℕ) → textsOf k p ≡ drop 5 p ∷ 
   errors st (cut ∷ rs) b e = tt
   errors st (item j p ∷ rs) b e =
       let t = taken st j p rs e in
-      either (eqb j k)
+      by-test (eqb j k)
       (λ h. rw h (b .0, one-text (drop 5 p) (text (eqb-true j k h) (t .texts))))
-      (λ h. either (eqb j 2 || eqb j 7) (λ g. rw (h, g) (errors (stageAfter st j p) rs (b .1) (t .rest))) (λ g. rw (h, g) tt))
+      (λ h. by-test (eqb j 2 || eqb j 7) (λ g. rw (h, g) (errors (stageAfter st j p) rs (b .1) (t .rest))) (λ g. rw (h, g) tt))
     where
       text : j ≡ k → allWellFormed (textsOf j p) ≡ true → allWellFormed (drop 5 p ∷ []) ≡ true
       text same e2 = rw (same, texts-are p) at e2

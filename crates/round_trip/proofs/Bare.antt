@@ -6,6 +6,7 @@ use mathlib.Core.Option.{Option, none, some}
 use Prim.Native.Nat.{ℕ, suc}
 use lib.Dec.{eqb}
 use borrow.Author.Tests.{eqb-true}
+use Rattle.wire.proofs.Cases.{by-test}
 use Rattle.packet.specs.Reply.{packetOf}
 use Rattle.token.specs.Tokens.{bytesOf, joined}
 use Rattle.script.specs.Records.{Item, item, cut, records}
@@ -14,7 +15,7 @@ use Rattle.result.specs.Emission.{Piece, told, classified, leadingStatus, colum
 use Rattle.result.proofs.Sizes.{bytes-none, bytes-told, bytes-classified}
 use Rattle.fit.specs.declared.Fit.the-variants.{Yes}
 use Rattle.fit.specs.Misfits.{typesIn, setMisfits, misfitsFrom, misfits, fitOf}
-use Rattle.fit.proofs.Inverts.{either, set-fits, fits-set, fits-row, fits-other, fits-first, fits-yes}
+use Rattle.fit.proofs.Inverts.{set-fits, fits-set, fits-row, fits-other, fits-first, fits-yes}
 use Rattle.reader.specs.WellFormed.{tokensPacket}
 use Rattle.round_trip.proofs.Accepted.{by-error}
 
@@ -50,14 +51,14 @@ unfolding emitFrom piecesOf rowsAfter
 bare-from set row rows types [] e = tt
 bare-from set row rows types (cut ∷ rs) e = tt
 bare-from set row rows types (item k p ∷ rs) e =
-    either (eqb k 1)
+    by-test (eqb k 1)
     (λ h. let f = fits-set set row types k p rs e h in
     rw h (bare-cat (setPieces p rs) (emitFrom 0 rs) (bare-set (suc set) p rs (f .0)) (bare-from (suc set) 0 0 (typesIn (ahead 2 rs)) rs (f .1))))
-    (λ h1. either (eqb k 4)
+    (λ h1. by-test (eqb k 4)
     (λ h. let w = bare-from set (suc row) (suc rows) types rs (fits-row set row types k p rs e h1 h .1) in rw (eqb-true k 4 h) w)
     (λ h4. let w = bare-from set row rows types rs (fits-other set row types k p rs e h1 h4) in
-    either (eqb k 3 || eqb k 9) (λ h. rw (h1, h, h4) w)
-    (λ h3. either (eqb k 5) (λ h. rw (h1, h3, h4, h) w) (λ h. rw (h1, h3, h4, h) w))))
+    by-test (eqb k 3 || eqb k 9) (λ h. rw (h1, h, h4) w)
+    (λ h3. by-test (eqb k 5) (λ h. rw (h1, h3, h4, h) w) (λ h. rw (h1, h3, h4, h) w))))
 
 bare-script : (rs : List Item) → misfits rs ≡ [] → Bare (emittedBy rs)
 unfolding emittedBy

@@ -6,11 +6,11 @@ use mathlib.Core.Option.{Option, none, some}
 use Prim.Native.Nat.{ℕ, suc}
 use lib.Dec.{eqb}
 use borrow.Author.Tests.{eqb-true, eq-eqb}
+use Rattle.wire.proofs.Cases.{by-test}
 use Rattle.token.specs.Tokens.{Token, Sent}
 use Rattle.script.specs.Records.{Item, item, cut, records}
 use Rattle.result.specs.Runs.{ahead}
 use Rattle.result.specs.Emission.{Piece, classified, leadingStatus, columnPieces, setPieces, piecesOf, rowsAfter, emitFrom, errorIn, errorPieces, orSets, emittedBy, pieces, tokensIn, emitted}
-use Rattle.fit.proofs.Inverts.{either}
 use Rattle.reader.specs.WellFormed.{Phase, WF, wf-metadata, wf-column, wf-row, wf-cell, wf-message, wf-done, wf-last}
 use Rattle.reader.proofs.ReadBack.{equal-packets}
 use Rattle.round_trip.specs.Corollaries.{EqualPackets, countsRows, RowsCounted, moreButLast, MoreButLast, Terminal}
@@ -35,13 +35,13 @@ unfolding emitFrom piecesOf rowsAfter
 counted rows [] = rw (eq-eqb rows rows refl)
 counted rows (cut ∷ rs) = rw (eq-eqb rows rows refl)
 counted rows (item k p ∷ rs) =
-    either (eqb k 1)
+    by-test (eqb k 1)
     (λ h. let w = no-rows p (ahead 2 rs) (emitFrom 0 rs) ∙ counted 0 rs in rw (eqb-true k 1 h, eq-eqb rows rows refl) w)
-    (λ h1. either (eqb k 4)
+    (λ h1. by-test (eqb k 4)
     (λ h. let w = counted (suc rows) rs in rw (eqb-true k 4 h) w)
     (λ h4. let w = counted rows rs in
-    either (eqb k 3 || eqb k 9) (λ h. rw (h1, h, h4) w)
-    (λ h3. either (eqb k 5) (λ h. rw (h1, h3, h4, h) w) (λ h. rw (h1, h3, h4, h) w))))
+    by-test (eqb k 3 || eqb k 9) (λ h. rw (h1, h, h4) w)
+    (λ h3. by-test (eqb k 5) (λ h. rw (h1, h3, h4, h) w) (λ h. rw (h1, h3, h4, h) w))))
 
 counted-sets : (o8 o7 : Option (List ℕ)) (p : List ℕ) (rs : List Item)
     → countsRows 0 (tokensIn (orSets o8 (errorPieces leadingStatus o7 ++ (setPieces p rs ++ emitFrom 0 rs)))) ≡ true

@@ -9,6 +9,7 @@ use lib.Dec.{eqb, leb}
 use lib.ListN.{length, take, drop, length-drop}
 use lib.Seq.{length-take-le}
 use borrow.Author.Tests.{eqb-true, eqb-false, eq-eqb, leb-true}
+use Rattle.wire.proofs.Cases.{by-test}
 use Rattle.wire.specs.Le.{leAt}
 use Rattle.text.specs.Units.{unitsOf}
 use Rattle.text.specs.Surrogates.{surrogates, paired, wellFormed, hasPair}
@@ -19,7 +20,7 @@ use Rattle.script.specs.Shape.{even, columnShaped, numberWidth, message, server
 use Rattle.script.specs.Verdict.{allWellFormed}
 use Rattle.result.specs.Emission.{infoToken, valueCell, cellOf}
 use Rattle.result.specs.Refusal.{longName, anyEmpty, cellFault, tokenFault}
-use Rattle.fit.proofs.Inverts.{either, Suits, number, text, nvarcharMax, noMax, varcharMax, varbinaryMax, noNumber}
+use Rattle.fit.proofs.Inverts.{Suits, number, text, nvarcharMax, noMax, varcharMax, varbinaryMax, noNumber}
 use Rattle.reader.specs.WellFormed.{ColumnType, ColumnOk, ChunksOk, CellOk, MessageOk}
 use Rattle.reader.proofs.Sendable.{sent-type, even-text, column-ok, message-ok}
 use Rattle.round_trip.specs.Octets.{Bytes}
@@ -34,7 +35,7 @@ columnType t = record { code = typeCode (dataTypeOf t); limit = typeLength (data
 
 collation≤ : (code : ℕ) → collationSize code ≤ 5
 unfolding collationSize
-collation≤ code = either (eqb code 0xE7 || eqb code 0xA7) (λ h. rw h (omega arith)) (λ h. rw h (omega arith))
+collation≤ code = by-test (eqb code 0xE7 || eqb code 0xA7) (λ h. rw h (omega arith)) (λ h. rw h (omega arith))
 
 first-of-four : (a b c d : Bool) → (a && b && c && d) ≡ true → a ≡ true
 first-of-four true b c d e = refl
@@ -78,24 +79,24 @@ error-fits p b w =
 integers : (t : ℕ) → 1 ≤ t → t ≤ 4 → (typeCode (dataTypeOf t) ≡ 0x26) × (typeLength (dataTypeOf t) ≡ numberWidth t)
 unfolding dataTypeOf numberWidth
 integers t l m =
-    either (eqb t 1) (λ h. rw (eqb-true t 1 h) (refl, refl))
-    (λ h1. either (eqb t 2) (λ h. rw (eqb-true t 2 h) (refl, refl))
-    (λ h2. either (eqb t 3) (λ h. rw (eqb-true t 3 h) (refl, refl))
+    by-test (eqb t 1) (λ h. rw (eqb-true t 1 h) (refl, refl))
+    (λ h1. by-test (eqb t 2) (λ h. rw (eqb-true t 2 h) (refl, refl))
+    (λ h2. by-test (eqb t 3) (λ h. rw (eqb-true t 3 h) (refl, refl))
     (λ h3. let e : t ≡ 4 = omega (arith, eqb-false t 1 h1, eqb-false t 2 h2, eqb-false t 3 h3) in rw e (refl, refl))))
 
 max-types : (t : ℕ) → 6 ≤ t → t ≤ 8 → typeLength (dataTypeOf t) ≡ 0xFFFF
 unfolding dataTypeOf
 max-types t l m =
-    either (eqb t 6) (λ h. rw (eqb-true t 6 h) refl)
-    (λ h1. either (eqb t 7) (λ h. rw (eqb-true t 7 h) refl)
+    by-test (eqb t 6) (λ h. rw (eqb-true t 6 h) refl)
+    (λ h1. by-test (eqb t 7) (λ h. rw (eqb-true t 7 h) refl)
     (λ h2. let e : t ≡ 8 = omega (arith, eqb-false t 6 h1, eqb-false t 7 h2) in rw e refl))
 
 number-cell : (x : List ℕ) (cs : List (List ℕ)) (v : ℕ) → 1 ≤ v → v ≤ 4 → valueCell (columnValueOf v) x cs ≡ integer (numberWidth v) (leAt (numberWidth v) x)
 unfolding columnValueOf numberWidth
 number-cell x cs v l m =
-    either (eqb v 1) (λ h. rw (eqb-true v 1 h) refl)
-    (λ h1. either (eqb v 2) (λ h. rw (eqb-true v 2 h) refl)
-    (λ h2. either (eqb v 3) (λ h. rw (eqb-true v 3 h) refl)
+    by-test (eqb v 1) (λ h. rw (eqb-true v 1 h) refl)
+    (λ h1. by-test (eqb v 2) (λ h. rw (eqb-true v 2 h) refl)
+    (λ h2. by-test (eqb v 3) (λ h. rw (eqb-true v 3 h) refl)
     (λ h3. let e : v ≡ 4 = omega (arith, eqb-false v 1 h1, eqb-false v 2 h2, eqb-false v 3 h3) in rw e refl)))
 
 chunks-ok : (units : Bool) (cs : List (List ℕ)) → anyEmpty cs ≡ false → (units ≡ true → Whole cs) → ChunksOk units cs

@@ -10,6 +10,7 @@ use lib.Dec.{eqb, ltb}
 use lib.ListN.{length, drop, length-map}
 use lib.Seq.{append-snoc}
 use borrow.Author.Tests.{eqb-true, ltb-false}
+use Rattle.wire.proofs.Cases.{by-test}
 use Rattle.wire.specs.Le.{leAt}
 use Rattle.packet.specs.Status.{hasBit}
 use Rattle.packet.proofs.Sizes.{length-packet}
@@ -26,7 +27,7 @@ use Rattle.result.specs.Refusal.{longName, faultIn, refusalOf}
 use Rattle.result.proofs.Sizes.{size-told, size-row, size-cat}
 use Rattle.fit.specs.declared.Fit.the-variants.{Yes}
 use Rattle.fit.specs.Misfits.{cellsIn, typesIn, setMisfits, misfitsFrom, misfits, fitOf}
-use Rattle.fit.proofs.Inverts.{either, Pairless, Match, noCell, match-cell, match-chunk, match-over, match-end, suits, set-fits, row-fits, fits-set, fits-row, fits-other, fits-first, fits-yes}
+use Rattle.fit.proofs.Inverts.{Pairless, Match, noCell, match-cell, match-chunk, match-over, match-end, suits, set-fits, row-fits, fits-set, fits-row, fits-other, fits-first, fits-yes}
 use Rattle.reader.specs.WellFormed.{ColumnType, among, between, inRow, WF, WellFormed}
 use Rattle.reader.proofs.Sendable.{done-ok, metadata-then, column-then, row-then, cell-then, message-then, done-then, done-last}
 use Rattle.round_trip.specs.Octets.{Bytes}
@@ -112,9 +113,9 @@ outside : (st : Stage) (k : ℕ) (p : List ℕ) → eqb k 4 ≡ false → eqb k 
     → (allowed (stageAfter st k p) 5 ≡ false) × (allowed (stageAfter st k p) 6 ≡ false)
 unfolding stageAfter
 outside st k p h4 h5 h6 =
-    either (eqb k 1 || eqb k 2) (λ a. rw a (refl, refl))
-    (λ a. either (eqb k 3 || eqb k 8) (λ b. rw (a, b) (refl, refl))
-    (λ b. either (eqb k 7) (λ c. rw (a, b, h4, h5, h6, c) (refl, refl)) (λ c. rw (a, b, h4, h5, h6, c) (refl, refl))))
+    by-test (eqb k 1 || eqb k 2) (λ a. rw a (refl, refl))
+    (λ a. by-test (eqb k 3 || eqb k 8) (λ b. rw (a, b) (refl, refl))
+    (λ b. by-test (eqb k 7) (λ c. rw (a, b, h4, h5, h6, c) (refl, refl)) (λ c. rw (a, b, h4, h5, h6, c) (refl, refl))))
 
 -- ---- a record, and those behind it
 
@@ -162,7 +163,7 @@ module _ (p : List ℕ) (rs : List Item) (rest : Claim rs) (set nth rows : ℕ) 
   info-at : (k : ℕ) → (eqb k 3 || eqb k 9) ≡ true → At k
   unfolding emitFrom piecesOf rowsAfter textsOf
   info-at k h =
-      either (eqb k 3)
+      by-test (eqb k 3)
       (λ a. rw (eqb-true k 3 a) (λ g. info-of 3 g refl refl refl refl refl refl))
       (λ a. let b : eqb k 9 ≡ true = rw a at h in rw (eqb-true k 9 b) (λ g. info-of 9 g refl refl refl refl refl refl))
 
@@ -229,11 +230,11 @@ module _ (p : List ℕ) (rs : List Item) (rest : Claim rs) (set nth rows : ℕ) 
 
   item-at : (k : ℕ) → At k
   item-at k =
-      either (eqb k 1) (λ h. rw (eqb-true k 1 h) set-at)
-      (λ h1. either (eqb k 3 || eqb k 9) (λ h. info-at k h)
-      (λ h3. either (eqb k 4) (λ h. rw (eqb-true k 4 h) row-at)
-      (λ h4. either (eqb k 5) (λ h. rw (eqb-true k 5 h) cell-at)
-      (λ h5. either (eqb k 6) (λ h. rw (eqb-true k 6 h) chunk-at)
+      by-test (eqb k 1) (λ h. rw (eqb-true k 1 h) set-at)
+      (λ h1. by-test (eqb k 3 || eqb k 9) (λ h. info-at k h)
+      (λ h3. by-test (eqb k 4) (λ h. rw (eqb-true k 4 h) row-at)
+      (λ h4. by-test (eqb k 5) (λ h. rw (eqb-true k 5 h) cell-at)
+      (λ h5. by-test (eqb k 6) (λ h. rw (eqb-true k 6 h) chunk-at)
       (λ h6. other-at k h1 h3 h4 h5 h6)))))
 
 -- the last DONE

@@ -8,12 +8,13 @@ use lib.Dec.{eqb, ltb}
 use lib.ListN.{length, drop}
 use lib.Seq.{take-at}
 use borrow.Author.Tests.{ltb-false}
+use Rattle.wire.proofs.Cases.{by-test}
 use Rattle.wire.proofs.Over.{over-eq}
 use Rattle.token.specs.Tokens.{states}
 use Rattle.result.specs.declared.Built.the-variants.{Written, Refused}
 use Rattle.result.specs.Emission.{emitted, replyOf}
 use Rattle.result.specs.Refusal.{refusalOf, builtOf, bufferOf}
-use Rattle.fit.proofs.Inverts.{either, fits-yes}
+use Rattle.fit.proofs.Inverts.{fits-yes}
 use Rattle.reader.specs.Positions.{freshPosition}
 use Rattle.reader.specs.Reader.{answerOf}
 use Rattle.reader.specs.Meaning.{tell, kth}
@@ -27,8 +28,8 @@ use Rattle.round_trip.proofs.Bare.{reply-is}
 written : (s : List ℕ) (m n : ℕ) → builtOf s m ≡ Written n → (length (replyOf s) ≡ n) × (length (replyOf s) ≤ m)
 unfolding builtOf
 written s m n e =
-    either (eqb (refusalOf s) 0)
-    (λ h. either (ltb m (length (replyOf s)))
+    by-test (eqb (refusalOf s) 0)
+    (λ h. by-test (ltb m (length (replyOf s)))
     (λ g. let c : _≡_ (Refused 20) (Written n) = rw (h, g) at e in let z : _≡_ {A = ℕ} 0 1 = cc in absurd (omega arith))
     (λ g. let c : _≡_ (Written (length (replyOf s))) (Written n) = rw (h, g) at e in
     let z : length (replyOf s) ≡ n = cc in

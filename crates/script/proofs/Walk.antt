@@ -4,13 +4,13 @@ use mathlib.Core.Path.{_≡_, refl, ap, _∙_}
 use mathlib.Core.List.{List, [], _∷_}
 use mathlib.Core.Bool.{cond}
 use Prim.Native.Nat.{ℕ, zero, suc, _+_, _-_, _≤_, _<_}
-use native.Mathlib.Nat.{le-of-suc-le-suc, not-suc-le-zero, lt-of-not-le}
+use native.Mathlib.Nat.{le-of-suc-le-suc, not-suc-le-zero}
 use native.Mathlib.Omega.{arith}
-use native.Mathlib.Decide.{decLe}
 use lib.ListN.{length, take, drop, length-drop, drop-of-length-le}
 use lib.Seq.{drop-drop}
 use lib.Dec.{leb}
 use borrow.Author.Tests.{le-ltb, lt-ltb, le-leb, lt-leb}
+use Rattle.wire.proofs.Cases.{split}
 use Rattle.wire.specs.Le.{leAt}
 use Rattle.script.specs.Records.{Item, item, cut, parse, records, recordAt}
 use Rattle.script.specs.declared.Found.{Found}
@@ -56,9 +56,6 @@ parse-cut (a ∷ b ∷ c ∷ []) g h = refl
 parse-cut (a ∷ b ∷ c ∷ d ∷ []) g h = refl
 parse-cut (a ∷ b ∷ c ∷ d ∷ e ∷ []) g h = refl
 parse-cut (a ∷ b ∷ c ∷ d ∷ e ∷ f ∷ l) g h = absurd (omega arith)
-
-split {ℓ} : {X : Type ℓ} (a b : ℕ) → (a ≤ b → X) → (b < a → X) → X
-split a b f g = elim (decLe a b) [ yes h ↦ f h | no h ↦ g (lt-of-not-le h) ]
 
 module _ (s : List ℕ) (at : ℕ) where
   abbrev N : ℕ

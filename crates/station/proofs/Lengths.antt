@@ -19,7 +19,7 @@ use Rattle.result.specs.Room.{isRoom}
 use Rattle.result.specs.declared.Built.{Built}
 use Rattle.result.specs.declared.Built.the-variants.{Written, Refused}
 use Rattle.result.specs.declared.Room.the-variants.{Bytes, Denied}
-use Rattle.result.proofs.Turns.{by-test}
+use Rattle.wire.proofs.Cases.{by-test}
 use Rattle.station.specs.Answer.{refuses, numberOf}
 use Rattle.station.specs.Results.{roomTold}
 

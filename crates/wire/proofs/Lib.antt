@@ -1,5 +1,6 @@
 pub mod Le
 pub mod Be
+pub mod Cases
 pub mod Over
 pub mod Fields
 pub mod Parts

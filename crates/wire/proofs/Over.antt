@@ -2,12 +2,12 @@
 use mathlib.Core.Path.{_≡_, refl, sym, ap, _∙_}
 use mathlib.Core.List.{List, [], _∷_, _++_}
 use Prim.Native.Nat.{ℕ, suc, _+_, _-_, _≤_, _<_, min}
-use native.Mathlib.Nat.{suc-add, add-suc, add-zero, lt-of-not-le}
-use native.Mathlib.Decide.{decLe}
+use native.Mathlib.Nat.{suc-add, add-suc, add-zero}
 use native.Mathlib.Omega.{arith}
 use native.Mathlib.Numerals.{add-one}
 use lib.ListN.{length, take, drop, set, getD, length-set, length-append, take-append-drop}
 use lib.Seq.{sets, sets-eq, set-out, take-suc, take-all, length-take-le}
+use Rattle.wire.proofs.Cases.{split}
 use Rattle.wire.specs.Over.{overwrite, Wrote}
 
 pub length-over : (xs l : List ℕ) (at : ℕ) → length (overwrite l at xs) ≡ length l
@@ -35,9 +35,6 @@ is-sets (x ∷ xs) l at = is-sets xs (set l at x) (suc at)
 -- with room for xs: what stood before it, xs, and what stood behind it
 pub over-eq : (xs l : List ℕ) (at : ℕ) → at + length xs ≤ length l → overwrite l at xs ≡ take at l ++ xs ++ drop (at + length xs) l
 over-eq xs l at h = is-sets xs l at ∙ sets-eq xs l at h
-
-split {ℓ} : {X : Type ℓ} (a b : ℕ) → (a ≤ b → X) → (b < a → X) → X
-split a b f g = elim (decLe a b) [ yes h ↦ f h | no h ↦ g (lt-of-not-le h) ]
 
 -- the place behind xs, or the end: what is written there is the same
 over-min : (ys l : List ℕ) (at : ℕ) → overwrite l (min at (length l)) ys ≡ overwrite l at ys

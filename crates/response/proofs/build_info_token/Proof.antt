@@ -1,8 +1,8 @@
 -- `response::build_info_token` meets its contract. Assumes nothing.
 use native.Mathlib.Omega.{arith}
 use denote.Ref.{now}
+use Rattle.token.proofs.Sizes.{size-message}
 use Rattle.response.proofs.Ends.{refused, wrote}
-use Rattle.response.proofs.Lengths.{message-size}
 use Rattle.response.specs.Replies.{infoReply}
 use borrow.Author.Needs.{needs}
 use Rattle.response.proofs.build_info_token.Statement.{statement}
@@ -37,7 +37,7 @@ unfolding infoReply
 returns c = let r = c .before in
     let start = r .before .before .before .before .before .before .before .before .before in
     let a = start .args in
-    refused _ _ (now (a .buf)) (r .before .info-fault .ensures) (r .refusal .ensures) (λ z. omega (arith, message-size 0xAB (a .number) (a .state) (a .severity) (now (a .message)) (now (a .server-name)) (now (a .proc-name)) (a .line-number))) (c .if1 .taken)
+    refused _ _ (now (a .buf)) (r .before .info-fault .ensures) (r .refusal .ensures) (λ z. omega (arith, size-message 0xAB (a .number) (a .state) (a .severity) (now (a .message)) (now (a .server-name)) (now (a .proc-name)) (a .line-number))) (c .if1 .taken)
 
 put-message-requires : tie.Need-put-message-requires
 put-message-requires c κs = search needs
@@ -52,7 +52,7 @@ returns-2 c = let w = c .before .before in
     let r = t .before in
     let start = r .before .before .before .before .before .before .before .before .before in
     let a = start .args in
-    wrote _ _ (now (a .buf)) (r .before .info-fault .ensures) (r .refusal .ensures) (λ z. omega (arith, message-size 0xAB (a .number) (a .state) (a .severity) (now (a .message)) (now (a .server-name)) (now (a .proc-name)) (a .line-number))) (t .if1 .left) (w .put-message .ensures)
+    wrote _ _ (now (a .buf)) (r .before .info-fault .ensures) (r .refusal .ensures) (λ z. omega (arith, size-message 0xAB (a .number) (a .state) (a .severity) (now (a .message)) (now (a .server-name)) (now (a .proc-name)) (a .line-number))) (t .if1 .left) (w .put-message .ensures)
 
 pub build-info-token-spec : {M : Type 1} → statement M
 build-info-token-spec =

@@ -3,11 +3,12 @@ use mathlib.Core.Path.{ap, _∙_}
 use native.Mathlib.Omega.{arith}
 use denote.Ref.{now}
 use lib.ListN.{length, drop}
+use Rattle.token.proofs.Sizes.{size-message}
 use Rattle.wire.specs.Le.{leAt}
 use Rattle.script.specs.Shape.{message, server, procedure}
 use Rattle.result.specs.Emission.{infoToken}
 use Rattle.result.proofs.Turns.{turned-one, goes-here}
-use Rattle.result.proofs.Sizes.{cap-texts, cap-same, size-message}
+use Rattle.result.proofs.Sizes.{cap-texts, cap-same}
 use borrow.Author.Needs.{needs}
 use Rattle.result.proofs.info_turn.Statement.{statement}
 use Rattle.result.proofs.info_turn.Tie as tie

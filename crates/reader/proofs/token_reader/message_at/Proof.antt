@@ -7,7 +7,7 @@ use Rattle.reader.proofs.CodeReads.{number-got, number-not, must-hold, 
 use Rattle.reader.specs.Code.{tokenRead}
 use Rattle.reader.specs.Tokens.{messageAt}
 use Rattle.reader.proofs.CodeTokens.{message-texts}
-use Rattle.reader.proofs.CodePositions.{both}
+use Rattle.reader.proofs.Types.{both}
 use borrow.Author.Needs.{needs}
 use Rattle.reader.proofs.token_reader.message_at.Statement.{statement}
 use Rattle.reader.proofs.token_reader.message_at.Tie as tie
