@@ -31,14 +31,17 @@ def exported():
 
 
 def build(groups):
+    table.progress("building the calls")
     places = {**os.environ, "STATION_LIB_DIR": str(LIBRARY), "CARGO_TARGET_DIR": str(table.TARGET)}
     cargo = ["cargo", "build", "-j1", "--offline", "--release", "--quiet", "--features", ",".join(groups)]
-    subprocess.run(cargo, check=True, cwd=HERE, env=places)
+    if subprocess.run(cargo, cwd=HERE, env=places).returncode != 0:
+        sys.exit("the calls were not built; benches/run --help says what they need")
     return table.TARGET / "release" / "bench"
 
 
 def count(program, case, side):
     """Input bytes, answer bytes and sum as the program says them, and the instructions."""
+    table.progress(f"{case}, {side}")
     words = [program, case, side]
     said, instructions = table.callgrind(words, table.counts(case, side), "--toggle-collect=measured")
     if instructions == 0:
@@ -76,5 +79,7 @@ def measured(chosen):
     growth = {}
     cases = [line.rsplit(" ", 1) for line in table.said([program, "list"]).splitlines()]
     cases = [(case, group) for case, group in cases if chosen(case)]
-    took = table.least(lambda: times(program, cases))
+    if not cases:
+        return HEADS, [], growth
+    took = table.least("calls", lambda: times(program, cases))
     return HEADS, [row(program, *case, *pair, growth) for case, *pair in zip(cases, took[::2], took[1::2])], growth

@@ -3,7 +3,7 @@ NULLs were met and the least nanoseconds of processor time.
 
     python3 pytds_reads.py FOLDER count|time     FOLDER holds by_pytds.py; count: each packet is read once
 
-`getppid` is called right before each packet's first read and behind the last one: callgrind's --dump-before=getppid
+`getppid` is called right before each packet's first read and after the last one: callgrind's --dump-before=getppid
 splits the counts there."""
 
 import os

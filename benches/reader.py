@@ -61,6 +61,7 @@ def listed(content, copies):
 
 def ours(case, columns, rows):
     """Instructions of a packet, and of printing texts in it (None where that is no function of its own)."""
+    table.progress(f"{case}, ours")
     file, content = table.counts(case, "ours"), packet(columns, rows)
     totals, prints = [], []
     for copies in (1, 2):
@@ -93,6 +94,7 @@ def processor_time():
 
 def by_pytds(cases):
     """Instructions of each case's packet, all read in one process."""
+    table.progress("reader, pytds")
     file = table.counts("reader", "pytds")
     for old in file.parent.glob(f"{file.name}.*"):
         old.unlink()
@@ -143,8 +145,9 @@ def has_pytds():
 
 def measured(chosen):
     """Heads, rows and growth of the chosen cases. A size that has no room for the columns and a row is left out."""
-    cases = [(f"reader, {columns} column{'s'[:columns > 1]}, {size}", columns, rows_in(columns, most))
-             for columns in COLUMNS for size, most in SIZES.items()]
+    cases = [("smallest packet read", 1, 1)]
+    cases += [(f"reader, {columns} column{'s'[:columns > 1]}, {size}", columns, rows_in(columns, most))
+              for columns in COLUMNS for size, most in SIZES.items()]
     cases = [case for case in cases if case[2] > 0 and chosen(case[0])]
     growth = {}
     if not cases:
@@ -156,8 +159,8 @@ def measured(chosen):
     table.TARGET.mkdir(parents=True, exist_ok=True)
     counted = [ours(*case) for case in cases]
     runs = [(packet(*case[1:]), INSTRUCTIONS // each + 1) for case, (each, _) in zip(cases, counted)]
-    took = table.least(lambda: [ours_time(*run) for run in runs])
+    took = table.least("reader, ours", lambda: [ours_time(*run) for run in runs])
     peers = [None] * len(cases)
     if has_pytds():
-        peers = list(zip(by_pytds(cases), table.least(lambda: pytds_times(cases))))
+        peers = list(zip(by_pytds(cases), table.least("reader, pytds", lambda: pytds_times(cases))))
     return HEADS, [row(*case, *rest, growth) for case, *rest in zip(cases, counted, took, peers)], growth

@@ -3,6 +3,7 @@
 import os
 import re
 import subprocess
+import sys
 from pathlib import Path
 
 ROOT = Path(__file__).resolve().parent.parent
@@ -11,6 +12,11 @@ TARGET = Path(os.environ.get("CARGO_TARGET_DIR", ROOT / "target" / "benches")).r
 NEAR = 0.1
 # How often all times are taken: a moment at which the machine is busy does not meet every time of a case.
 PASSES = 5
+
+
+def progress(line):
+    """Tells on standard error what is being measured."""
+    print(f"benches: {line}", file=sys.stderr, flush=True)
 
 
 def said(words, **more):
@@ -34,9 +40,13 @@ def total(counts):
     return int(re.search(r"^totals: ([0-9]+)", counts.read_text(), re.M)[1])
 
 
-def least(times):
+def least(what, times):
     """The least of each time; `times` takes them all once."""
-    return [min(each) for each in zip(*(times() for _ in range(PASSES)))]
+    taken = []
+    for number in range(PASSES):
+        progress(f"{what}, times, pass {number + 1} of {PASSES}")
+        taken.append(times())
+    return [min(each) for each in zip(*taken)]
 
 
 def microseconds(nanoseconds):

@@ -121,7 +121,7 @@ int64_t station_build_feature_ext_ack_data_classification(uint8_t version, uint8
 int64_t station_build_feature_ext_ack(const uint8_t *features, size_t features_len, uint8_t *buf, size_t buf_len);
 int64_t station_build_feature_ext_ack_enhanced_routing(uint8_t is_enabled, uint8_t *buf, size_t buf_len);
 
-/* FEDAUTHINFO, in a packet behind the acknowledgement of federated authentication, and by itself. */
+/* FEDAUTHINFO, in a packet after the acknowledgement of federated authentication, and by itself. */
 int64_t station_build_fedauth_challenge_response(const uint8_t *sts_url, size_t sts_url_len, const uint8_t *spn,
                                                  size_t spn_len, uint8_t *buf, size_t buf_len);
 int64_t station_build_fedauth_info_token(const uint8_t *sts_url, size_t sts_url_len, const uint8_t *spn,
@@ -162,7 +162,7 @@ int64_t station_build_enhanced_routing_envchange_token(const uint8_t *redirect_h
 
 /* A login that is routed by one plain route, and by a list of routes: records of kind 0x0011, plain and without a
  * payload, and of kind 0x0012, whose payload is the database's text. `ack` is the byte that acknowledges enhanced
- * routing, before the routes or behind them; 256 and above stand for no acknowledgement.
+ * routing, before the routes or after them; 256 and above stand for no acknowledgement.
  */
 int64_t station_build_routing_response(const uint8_t *redirect_host, size_t redirect_host_len, uint16_t redirect_port,
                                        uint8_t *buf, size_t buf_len);

@@ -63,7 +63,7 @@ MOST_UNITS = 0xFFFF
 MOST_TIMES = 65_536
 MOST_NAMED = 40
 
-# A line's items: a text in quotes, its times behind it; a word. A gap or a comment is none.
+# A line's items: a text in quotes, its times after it; a word. A gap or a comment is none.
 ITEM = re.compile(r'''(?P<gap> [ \t\r]+ | \#.*)
     | (?P<text> "(?:[^"\\]|\\.)*" (?:\*[^ \t\r"\#]*)?)
     | (?P<word> [^ \t\r"\#]+)
@@ -170,7 +170,7 @@ class Line:
         return number_of(self.word(f"the {what}"), what, *bounds(width, signed))
 
     def named_number(self, name, width):
-        """A number behind its name."""
+        """A number after its name."""
         word = self.word(f"the word {name}")
         if word != name:
             raise Fault(f"the word {name} is missing before {named(word)}")
@@ -394,7 +394,7 @@ TEXT_CELL = bytes([VALUES.index("NVarCharMax") + 1])
 
 
 def shown_record(kind, payload, of_text):
-    """A record's line; of_text says whether it is behind a cell whose chunks are texts."""
+    """A record's line; of_text says whether it follows a cell whose chunks are texts."""
     shower = shown_text_chunk if kind == CHUNK and of_text else SHOWN.get(kind)
     words = shower(payload) if shower else None
     if words is None:

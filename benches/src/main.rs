@@ -12,6 +12,9 @@ mod requests;
 mod results;
 
 // What the tests against the Rust have: inputs, records and the library's exports.
+#[allow(dead_code, unused_imports)]
+#[path = "../../tests/oracle/src/answers/mod.rs"]
+mod answers;
 #[allow(dead_code)]
 #[path = "../../tests/oracle/src/inputs/mod.rs"]
 mod inputs;

@@ -17,7 +17,8 @@ const BATCHES: [(&str, fn(usize) -> String); 3] = [
 ];
 
 pub fn batches() -> Vec<Case> {
-    let mut cases = Vec::new();
+    let mut cases =
+        vec![Case::new("smallest batch", "request", |side, measure| batch("a", side, measure))];
     for (kind, text) in BATCHES {
         for (size, most) in SIZES {
             let run = move |side, measure| batch(&text((most - 4) / 2), side, measure);
@@ -50,7 +51,11 @@ const LOGINS: [(&str, fn(usize) -> Vec<u8>); 3] = [
 const FEATURE: usize = 6;
 
 pub fn logins() -> Vec<Case> {
-    let mut cases = vec![login_case("login, 0.3 KB".into(), body(64, 0, 0))];
+    let smallest = login_body(&[], &[], &[], &[]);
+    let mut cases = vec![
+        login_case("smallest login".into(), smallest),
+        login_case("login, 0.3 KB".into(), body(64, 0, 0)),
+    ];
     for (kind, body) in LOGINS {
         for (size, most) in SIZES {
             cases.push(login_case(format!("{kind}, {size}"), body(most)));

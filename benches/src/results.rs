@@ -19,6 +19,9 @@ struct Kind {
     value: fn(number: usize) -> ColumnValue,
 }
 
+/// The script of one set without columns.
+const BARE: Kind = Kind { name: "a bare set", types: &[], value: |_| ColumnValue::Null };
+
 const KINDS: [Kind; 3] = [
     Kind {
         name: "Ints",
@@ -41,19 +44,20 @@ const KINDS: [Kind; 3] = [
 ];
 
 pub fn replies() -> Vec<Case> {
-    let mut cases = Vec::new();
+    let mut cases = vec![Case::new("smallest reply", "result", |side, measure| {
+        reply(rows(&BARE, 0), side, measure)
+    })];
     for kind in &KINDS {
         for (size, most) in SIZES {
             let name = format!("reply of {}, {size}", kind.name);
-            let run = move |side, measure| reply(kind, most, side, measure);
+            let run = move |side, measure| reply(filled(kind, most), side, measure);
             cases.push(Case::new(name, "result", run));
         }
     }
     cases
 }
 
-fn reply(kind: &Kind, most: usize, side: Side, measure: Measure) -> Option<Outcome> {
-    let response = filled(kind, most);
+fn reply(response: QueryResponse, side: Side, measure: Measure) -> Option<Outcome> {
     let script = script(&response);
     let (answer, time) = match side {
         Side::Ours => ours(&script, measure)?,

@@ -11,7 +11,7 @@ NONE, CUT, KIND_WRONG, SHAPE_WRONG, TEXT_WRONG = 0, 11, 12, 13, 14
 KINDS = ("set", "column", "info", "row", "cell", "chunk", "leading error", "terminal error", "trailing info")
 AFTER_INFO = {"set", "info", "row", "trailing info"}
 AFTER_CELL = {"set", "row", "cell", "trailing info"}
-# What may stand behind a record; a cell that has chunks, and its chunks, are `chunked`.
+# What may follow a record; a cell that has chunks, and its chunks, are `chunked`.
 NEXT = {
     "": {"set"},
     "set": {"column", "leading error", "terminal error"} | AFTER_INFO,
@@ -32,7 +32,7 @@ TYPES = {"TinyInt": ("26", 1, False), "SmallInt": ("26", 2, False), "Int": ("26"
 
 
 def items(line):
-    """The record that a line names, and what stands behind it."""
+    """The record that a line names, and what follows it."""
     words = ITEM.findall(line.strip())
     size = 2 if words[0] in ("leading", "terminal", "trailing") else 1
     return " ".join(words[:size]), words[size:]
@@ -104,15 +104,15 @@ def value_token(words, chunks):
 
 
 def row_tokens(records):
-    """The tokens of a set's rows: a cell with the chunks behind it."""
+    """The tokens of a set's rows: a cell with the chunks after it."""
     for at, (name, words) in enumerate(records):
         if name == "row":
             yield "D1"
         elif name == "cell":
-            behind = at + 1
-            while behind < len(records) and records[behind][0] == "chunk":
-                behind += 1
-            yield value_token(words, [record[1][0] for record in records[at + 1:behind]])
+            after = at + 1
+            while after < len(records) and records[after][0] == "chunk":
+                after += 1
+            yield value_token(words, [record[1][0] for record in records[at + 1:after]])
 
 
 def set_tokens(records, trailing, last):

@@ -4,7 +4,7 @@ that it hears. The bridge joins a message's packets and puts a header before bar
     bridge.py LIBRARY SCRIPTS JOURNAL     prints a port and serves until its standard input ends
 
 A login at that port is routed to a second port, where it is accepted. LIBRARY is what `shared_object` links;
-SCRIPTS holds scripts, each behind its length (4 bytes). A batch that begins with `script N` is answered with the
+SCRIPTS holds scripts, each after its length (4 bytes). A batch that begins with `script N` is answered with the
 reply of the Nth script, from 0 on, any other batch, which is a client's setup, with a set without columns. Clients
 believe a row count only where the DONE has status bit 0010, which the Rust does not set: at `script N counted` the
 bridge sets it in the last DONE, the one bit that is not the library's. JOURNAL gets a line of JSON for each
@@ -184,7 +184,7 @@ class Server(socketserver.ThreadingTCPServer):
 
 
 def unpacked(held):
-    """Byte strings that stand one behind the other, each behind its length."""
+    """Byte strings one after another, each after its length."""
     at = 0
     while at < len(held):
         length = int.from_bytes(held[at:at + 4], "little")

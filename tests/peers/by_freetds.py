@@ -8,7 +8,7 @@ nothing where there are none.
 
 pymssql tells names, kinds of types, values, and messages without their numbers; an error's number is the
 exception's. It shows no set without columns. At an error it withdraws the batch by an attention, so that nothing is
-shown of the sets behind a leading error. Its `rowcount` is that of the DONE where the status has bit 0010 (MS-TDS
+shown of the sets after a leading error. Its `rowcount` is that of the DONE where the status has bit 0010 (MS-TDS
 2.2.7.6), else -1.
 
 Two things are not in the scripts for these conversations. FreeTDS takes a message of a severity over 10 for an

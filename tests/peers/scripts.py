@@ -144,7 +144,7 @@ class Script:
             self.tokens.append(("row", *(self.cell(type_byte) for type_byte in types)))
 
     def errors(self, first, terminal, start):
-        """Errors stand behind the columns. The first set's are sent: a leading one before it, a terminal one alone."""
+        """Errors stand after the columns. The first set's are sent: a leading one before it, a terminal one alone."""
         if self.source.random() < 0.3:
             sent = self.error(LEADING, 0x0003)
             if first:

@@ -55,7 +55,7 @@ def tokens():
     yield "row when fresh", packet(b"\xD1"), refused(28)
     yield "row of no columns", packet(columns() + row() + done(LAST)), refused(28)
     yield "row after a DONE", packet(columns(N4) + done(MORE) + row(integer(4, 1)) + done(LAST)), refused(28)
-    yield "row cut behind its code", packet(columns(N4) + b"\xD1"), refused(24)
+    yield "row cut after its code", packet(columns(N4) + b"\xD1"), refused(24)
     yield "a set after a set", packet(columns(N4) + columns(TEXT) + row(bounded(b"ab")) + done(LAST)), END
     yield "a set without columns after a set", packet(columns(N4) + columns() + row() + done(LAST)), refused(28)
     note = message(0xAB, 1, 2, 3, "m", "s", "p", 4)
@@ -76,9 +76,9 @@ def metadata():
             good = (code == 0x26 and limit in (1, 2, 4, 8)) or (code == 0xE7 and (1 <= limit <= 8000 or limit == 0xFFFF)) \
                 or (code in (0xA7, 0xA5) and limit == 0xFFFF)
             yield f"type {code:02X} {limit}", packet(columns((code, limit, "c")) + done(LAST)), END if good else refused(26)
-    yield "a wrong type, cut behind it", packet(b"\x81\x01\x00" + bytes(6) + b"\x38"), refused(26)
+    yield "a wrong type, cut after it", packet(b"\x81\x01\x00" + bytes(6) + b"\x38"), refused(26)
     yield "a type's length cut in two", packet(b"\x81\x01\x00" + bytes(6) + b"\xE7\x00"), refused(24)
-    yield "a wrong length, cut behind it", packet(b"\x81\x01\x00" + bytes(6) + b"\xA5\xFE\xFF"), refused(26)
+    yield "a wrong length, cut after it", packet(b"\x81\x01\x00" + bytes(6) + b"\xA5\xFE\xFF"), refused(26)
     yield "user type and flags", packet(b"\x81\x01\x00" + column(*N4, user=2**32 - 1, flags=0xFFFF) + done(LAST)), END
     yield "a name of 255 units", packet(columns((0x26, 1, "x" * 255)) + done(LAST)), END
     yield "an ill-formed name", packet(columns((0x26, 1, "\ud800")) + done(LAST)), END
@@ -145,7 +145,7 @@ def long_values():
         yield case("a chunk over the total", total(4) + chunk(6) + b"abcdef" + chunk(0), refused(26))
         yield case("a chunk over the total, cut", total(4) + chunk(6), refused(26), False)
         yield case("a second chunk over the total, cut", total(4) + chunk(2) + b"ab" + chunk(4), refused(26), False)
-        yield case("a chunk behind the total, cut", total(2) + chunk(2) + b"ab" + chunk(2), refused(26), False)
+        yield case("a chunk after the total, cut", total(2) + chunk(2) + b"ab" + chunk(2), refused(26), False)
         yield case("a chunk of a total of 0", total(0) + chunk(2) + b"ab" + chunk(0), refused(26))
         yield case("zero before the total", total(4) + chunk(2) + b"ab" + chunk(0), refused(26))
         yield case("zero before the total, cut", total(4) + chunk(0), refused(26), False)

@@ -68,7 +68,7 @@ def check_header(packet):
 
 
 def read(cursor, out):
-    """Tokens until the last DONE, behind which the packet must end."""
+    """Tokens until the last DONE, after which the packet must end."""
     columns = []
     while True:
         code = cursor.number(1)
@@ -166,10 +166,10 @@ def message(cursor, code):
     units = (length - 14) // 2
     number, state, severity = cursor.number(4), cursor.number(1), cursor.number(1)
     texts = []
-    for size, names_behind in ((2, 2), (1, 1), (1, 0)):
+    for size, names_after in ((2, 2), (1, 1), (1, 0)):
         count = cursor.number(size)
         units -= count
-        must(0 <= units <= 255 * names_behind)
+        must(0 <= units <= 255 * names_after)
         texts.append(cursor.part(2 * count))
     line = cursor.number(4)
     return f"{code:02X} {number} {state} {severity} {line} {' '.join(texts)}"

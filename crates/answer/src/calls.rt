@@ -1,4 +1,4 @@
-// The calls, a function each: it gets the input, puts its lines to out from at on, and answers the place behind them.
+// The calls, a function each: it gets the input, puts its lines to out from at on, and answers the place after them.
 use crate::lines;
 use crate::logins;
 use crate::replies;

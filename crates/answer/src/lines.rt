@@ -1,5 +1,5 @@
 // Text that gathers in a lent buffer: each function puts its part to out from at on, writes out what stands there where
-// room is short, and answers the place behind its part.
+// room is short, and answers the place after its part.
 use libc::STDOUT_FILENO;
 use wire::Part;
 
@@ -18,7 +18,7 @@ pub(crate) fn text(out: &mut [u8], at: usize, bytes: &[u8]) -> usize {
     wire::put_slice(out, at, bytes)
 }
 
-// A number in decimal, behind a space.
+// A number in decimal, after a space.
 pub(crate) fn number(out: &mut [u8], at: usize, n: u64) -> usize {
     let at = text(out, at, b" ");
     decimal(out, at, n)
@@ -31,7 +31,7 @@ pub(crate) fn decimal(out: &mut [u8], at: usize, n: u64) -> usize {
     text(out, at, &digits[..k])
 }
 
-// Numbers, each behind a space.
+// Numbers, each after a space.
 pub(crate) fn numbers(out: &mut [u8], from: usize, values: &[u64]) -> usize {
     let mut at = from;
     let mut i = 0;
@@ -48,7 +48,7 @@ pub(crate) fn part(out: &mut [u8], at: usize, word: &[u8], place: Part) -> usize
     numbers(out, at, &[place.start as u64, place.len as u64])
 }
 
-// Bytes in upper-case hexadecimal, behind a space; `-` where there are none.
+// Bytes in upper-case hexadecimal, after a space; `-` where there are none.
 pub(crate) fn bytes(out: &mut [u8], at: usize, s: &[u8]) -> usize {
     if s.len() == 0 {
         return text(out, at, b" -");

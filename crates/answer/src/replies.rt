@@ -1,9 +1,10 @@
 // The calls that read a reply: the lines of a run of the reply reader from the fresh position.
 use crate::lines;
+use cells::Value;
 use reader::Answer;
 use reader::Position;
+use reader::Step;
 use reader::Token;
-use reader::Value;
 use wire::Part;
 ghost use Prim.Native.Nat.{_+_, _≤_};
 ghost use lib.ListN.{length};
@@ -16,10 +17,14 @@ const CHUNK_LENGTH: usize = 4;
 // A line a token, then `end` or `refused N`. Where places are asked for, each part's follows it.
 pub(crate) fn answer(packet: &[u8], places: bool, out: &mut [u8], from: usize) -> usize {
     let mut at = from;
-    let mut position = Position::fresh();
+    let mut step = Step {
+        answer: Answer::End,
+        next: Position::fresh(),
+    };
     let mut steps = MOST_STEPS;
     while steps > 0 {
-        let step = position.step(packet);
+        let position = step.next;
+        step = position.step(packet);
         let got = step.answer;
         match got {
             Answer::Token(token) => {
@@ -32,7 +37,6 @@ pub(crate) fn answer(packet: &[u8], places: bool, out: &mut [u8], from: usize) -
                 return lines::refused(out, at, number);
             },
         }
-        position = step.next;
         steps -= 1;
     }
     at
@@ -122,7 +126,7 @@ fn cell_line(packet: &[u8], places: bool, value: Value, out: &mut [u8], at: usiz
     }
 }
 
-// A number with its sign in decimal, behind a space.
+// A number with its sign in decimal, after a space.
 fn signed(out: &mut [u8], at: usize, n: i64) -> usize {
     if n >= 0 {
         return lines::number(out, at, magnitude(n));
@@ -140,7 +144,7 @@ fn magnitude(n: i64) -> u64 {
     }
 }
 
-// A number as four digits, behind a space.
+// A number as four digits, after a space.
 fn word(out: &mut [u8], at: usize, n: u16) -> usize {
     lines::bytes(out, at, &[(n / 256) as u8, (n % 256) as u8])
 }
@@ -159,13 +163,13 @@ fn two_parts(
     lines::end(out, at)
 }
 
-// A part's bytes, behind a space.
+// A part's bytes, after a space.
 fn part(packet: &[u8], places: bool, held: Part, out: &mut [u8], at: usize) -> usize {
     let at = lines::bytes(out, at, wire::part_of(packet, held));
     place(places, held, out, at)
 }
 
-// A Max part: its chunks' bytes joined, behind a space.
+// A Max part: its chunks' bytes joined, after a space.
 fn max_part(packet: &[u8], places: bool, held: Part, out: &mut [u8], at: usize) -> usize {
     let at = joined(wire::part_of(packet, held), out, at);
     place(places, held, out, at)
@@ -201,7 +205,7 @@ fn chunk_length(held: &[u8], at: usize) -> usize
     if len < rest { len } else { rest }
 }
 
-// @START+LENGTH, behind a space, where places are asked for.
+// @START+LENGTH, after a space, where places are asked for.
 fn place(places: bool, held: Part, out: &mut [u8], at: usize) -> usize {
     if !places {
         return at;

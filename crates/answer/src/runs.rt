@@ -1,4 +1,5 @@
 // Runs of a call over standard input. Both answer how many bytes of their lines stand in out.
+use refusals::INPUT_TOO_LONG;
 ghost use Prim.Native.Nat.{_≤_};
 use crate::calls;
 use crate::calls::Call;
@@ -8,8 +9,6 @@ use wire::Part;
 
 // The most bytes of an input.
 const MOST: usize = 65536;
-// The refusal of an input that is longer.
-const INPUT_TOO_LONG: u8 = 18;
 // The bytes of the lent input buffer: an input and the length of a next one.
 pub(crate) const ROOM: usize = 65540;
 

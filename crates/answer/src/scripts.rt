@@ -38,7 +38,7 @@ fn packet_line(packet: &[u8], out: &mut [u8], at: usize) -> usize {
 pub(crate) fn room(input: &[u8], out: &mut [u8], at: usize) -> usize {
     match result::room_estimate(input) {
         Room::Bytes(room) => lines::number_line(out, at, b"room", room as u64),
-        Room::Denied(number) => lines::refused(out, at, number),
+        Room::Refused(number) => lines::refused(out, at, number),
     }
 }
 

@@ -16,7 +16,7 @@ use Rattle.script.specs.Records.{records, recordAt}
 use Rattle.script.specs.declared.Found.the-variants.{Record, Cut, End}
 use Rattle.script.proofs.Walk.{turn, cuts, ends}
 use Rattle.text.specs.Surrogates.{hasPair}
-use Rattle.result.specs.Runs.{ahead}
+use Rattle.script.specs.Runs.{ahead}
 use Rattle.fit.specs.Misfits.{columnFits, wrongColumns, typesIn}
 use Rattle.fit.specs.Walks.{Skips, First, ColumnsWalked}
 use Rattle.fit.specs.declared.Columns.{Columns}

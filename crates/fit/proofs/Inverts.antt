@@ -15,10 +15,13 @@ use Rattle.wire.specs.Le.{leAt}
 use Rattle.text.specs.Surrogates.{hasPair}
 use Rattle.script.specs.Records.{Item, item, records}
 use Rattle.script.specs.Shape.{cellShaped}
-use Rattle.result.specs.Runs.{ahead}
-use Rattle.result.specs.Emission.{errorIn, rowsAfter}
-use Rattle.result.specs.Refusal.{refusalOf}
-use Rattle.fit.specs.Misfits.{cellFits, cellsIn, wrongCells, wrongInRow, columnFits, wrongColumns, typesIn, setMisfits, rowMisfits, misfitsAt, misfitsFrom, setsFrom, terminal, misfits, firstOf, fitOf}
+use Rattle.script.specs.Runs.{ahead}
+use Rattle.emission.specs.Walk.{errorIn, rowsAfter}
+use Rattle.emission.specs.Refusal.{refusalOf}
+use Rattle.emission.proofs.BySets.{no-verdict}
+use Rattle.fit.proofs.BySets.{by-sets}
+use Rattle.fit.specs.Misfits.{cellFits, wrongCells, wrongInRow, columnFits, wrongColumns, typesIn, firstOf, fitOf}
+use Rattle.fit.specs.Records.{cellsIn, beginMisfits, cellMisfits, misfitsAt, misfitsFrom, setsFrom, terminal, misfitsIn}
 use Rattle.fit.specs.declared.Misfit.{Misfit}
 use Rattle.fit.specs.declared.Misfit.the-variants.{Column, Cell}
 use Rattle.fit.specs.declared.Fit.the-variants.{Yes, Refused}
@@ -130,16 +133,16 @@ module _ (t : ℕ) (p : List ℕ) (shape : cellShaped p ≡ true) (fits : cellFi
 
 -- ---- sets and rows
 
-pub set-fits : (set : ℕ) (p : List ℕ) (rs : List Item) → setMisfits set p rs ≡ [] → (p ≡ []) × (length (ahead 2 rs) ≤ 128) × Pairless (ahead 2 rs)
-unfolding setMisfits
+pub set-fits : (set : ℕ) (p : List ℕ) (rs : List Item) → beginMisfits set p rs ≡ [] → (p ≡ []) × (length (ahead 2 rs) ≤ 128) × Pairless (ahead 2 rs)
+unfolding beginMisfits
 set-fits set [] rs e =
     let w = map-eq-nil-iff (Column set) {l = wrongColumns 0 (ahead 2 rs)} .0 e in
     let f = columns-fit 0 (ahead 2 rs) (omega arith) w in
     (refl, omega (arith, f .0), f .1)
 set-fits set (b ∷ p) rs e = absurd (cons≢nil e)
 
-pub row-fits : (set row : ℕ) (types : List ℕ) (rs : List Item) → rowMisfits set row types rs ≡ [] → (0 < length types) × Match types (cellsIn rs)
-unfolding rowMisfits wrongInRow
+pub row-fits : (set row : ℕ) (types : List ℕ) (rs : List Item) → cellMisfits set row types rs ≡ [] → (0 < length types) × Match types (cellsIn rs)
+unfolding cellMisfits wrongInRow
 row-fits set row [] rs e = absurd (cons≢nil e)
 row-fits set row (t ∷ ts) rs e =
     (omega arith, cells-fit 0 (t ∷ ts) (cellsIn rs) (map-eq-nil-iff (Cell set row) {l = wrongCells 0 (t ∷ ts) (cellsIn rs)} .0 e))
@@ -147,15 +150,15 @@ row-fits set row (t ∷ ts) rs e =
 -- ---- record by record
 
 module _ (set row : ℕ) (types : List ℕ) (k : ℕ) (p : List ℕ) (rs : List Item) (e : misfitsFrom set row types (item k p ∷ rs) ≡ []) where
-  -- a set, with those behind it
-  pub fits-set : eqb k 1 ≡ true → (setMisfits (suc set) p rs ≡ []) × (misfitsFrom (suc set) 0 (typesIn (ahead 2 rs)) rs ≡ [])
+  -- a set, with those after it
+  pub fits-set : eqb k 1 ≡ true → (beginMisfits (suc set) p rs ≡ []) × (misfitsFrom (suc set) 0 (typesIn (ahead 2 rs)) rs ≡ [])
   unfolding misfitsFrom misfitsAt rowsAfter
-  fits-set h = both-empty (setMisfits (suc set) p rs) (misfitsFrom (suc set) 0 (typesIn (ahead 2 rs)) rs) (rw h at e)
+  fits-set h = both-empty (beginMisfits (suc set) p rs) (misfitsFrom (suc set) 0 (typesIn (ahead 2 rs)) rs) (rw h at e)
 
-  -- a row, with the records behind it
-  pub fits-row : eqb k 1 ≡ false → eqb k 4 ≡ true → (rowMisfits set row types rs ≡ []) × (misfitsFrom set (suc row) types rs ≡ [])
+  -- a row, with the records after it
+  pub fits-row : eqb k 1 ≡ false → eqb k 4 ≡ true → (cellMisfits set row types rs ≡ []) × (misfitsFrom set (suc row) types rs ≡ [])
   unfolding misfitsFrom misfitsAt rowsAfter
-  fits-row h g = both-empty (rowMisfits set row types rs) (misfitsFrom set (suc row) types rs) (rw (h, g) at e)
+  fits-row h g = both-empty (cellMisfits set row types rs) (misfitsFrom set (suc row) types rs) (rw (h, g) at e)
 
   -- any other record
   pub fits-other : eqb k 1 ≡ false → eqb k 4 ≡ false → misfitsFrom set row types rs ≡ []
@@ -164,20 +167,20 @@ module _ (set row : ℕ) (types : List ℕ) (k : ℕ) (p : List ℕ) (rs : List 
 
 -- ---- the script
 
--- the first set, with those behind it, of a script that is not terminal
-pub fits-first : (k : ℕ) (p : List ℕ) (rs : List Item) → misfits (item k p ∷ rs) ≡ [] → errorIn 8 rs ≡ none
-    → (setMisfits 0 p rs ≡ []) × (misfitsFrom 0 0 (typesIn (ahead 2 rs)) rs ≡ [])
-unfolding misfits terminal setsFrom
-fits-first k p rs e h = both-empty (setMisfits 0 p rs) (misfitsFrom 0 0 (typesIn (ahead 2 rs)) rs) (rw h at e)
+-- the first set, with those after it, of a script that is not terminal
+pub fits-first : (k : ℕ) (p : List ℕ) (rs : List Item) → misfitsIn (item k p ∷ rs) ≡ [] → errorIn 8 rs ≡ none
+    → (beginMisfits 0 p rs ≡ []) × (misfitsFrom 0 0 (typesIn (ahead 2 rs)) rs ≡ [])
+unfolding misfitsIn terminal setsFrom
+fits-first k p rs e h = both-empty (beginMisfits 0 p rs) (misfitsFrom 0 0 (typesIn (ahead 2 rs)) rs) (rw h at e)
 
 none-first : (ms : List Misfit) → firstOf ms ≡ Yes → ms ≡ []
 none-first [] e = refl
 none-first (m ∷ ms) e = let z : _≡_ {A = ℕ} 0 1 = cc in absurd (omega arith)
 
 -- what the fit check's yes says
-pub fits-yes : (s : List ℕ) → fitOf s ≡ Yes → (refusalOf s ≡ 0) × (misfits (records s) ≡ [])
+pub fits-yes : (s : List ℕ) → fitOf s ≡ Yes → (refusalOf s ≡ 0) × (misfitsIn (records s) ≡ [])
 unfolding fitOf
 fits-yes s e =
     by-test (eqb (refusalOf s) 0)
-    (λ h. (eqb-true (refusalOf s) 0 h, none-first (misfits (records s)) (rw h at e)))
+    (λ h. let r = eqb-true (refusalOf s) 0 h in (r, none-first (misfitsIn (records s)) (rw (h, by-sets s (no-verdict s r)) at e)))
     (λ h. let c : _≡_ (Refused (refusalOf s)) Yes = rw h at e in let z : _≡_ {A = ℕ} 0 1 = cc in absurd (omega arith))

@@ -1,3 +1,4 @@
+pub mod BySets
 pub mod Skip
 pub mod RowTurns
 pub mod ColumnTurns

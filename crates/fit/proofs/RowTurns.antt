@@ -15,7 +15,8 @@ use borrow.Author.Tests.{lt-ltb, le-ltb, not-true, not-false}
 use Rattle.script.specs.Records.{records, recordAt}
 use Rattle.script.specs.declared.Found.the-variants.{Record, Cut, End}
 use Rattle.script.proofs.Walk.{turn, cuts, ends}
-use Rattle.fit.specs.Misfits.{cellFits, cellsIn, wrongCells, wrongInRow}
+use Rattle.fit.specs.Misfits.{cellFits, wrongCells, wrongInRow}
+use Rattle.fit.specs.Records.{cellsIn}
 use Rattle.fit.specs.Walks.{Skips, First, cellWrong, rowEnd, RowWalked}
 use Rattle.fit.specs.declared.Row.{Row}
 use Rattle.fit.proofs.Skip.{skips-none, skips-one}
@@ -56,7 +57,7 @@ unfolding wrongCells cellWrong
 right-cell c [] p ps h = absurd (true≢false h)
 right-cell c (t ∷ ts) p ps h = rw (not-false (cellFits t p) h)
 
--- behind a right cell, one type less is left
+-- after a right cell, one type less is left
 next-cell : (c : ℕ) (types p : List ℕ) (ps : List (List ℕ)) → cellWrong (drop c types) p ≡ false
     → wrongCells (c + 1) (drop (c + 1) types) ps ≡ wrongCells c (drop c types) (p ∷ ps)
 next-cell c types p ps h = sym (right-cell c (drop c types) p ps h ∙ rw (drop-drop 1 c types, add-one c))

@@ -12,9 +12,10 @@ use lib.Dec.{eqb}
 use Rattle.script.specs.Records.{Item, records, recordAt}
 use Rattle.script.specs.declared.Found.the-variants.{Record, Cut, End}
 use Rattle.script.proofs.Walk.{lies, turn, cuts, ends}
-use Rattle.result.specs.Runs.{ahead}
-use Rattle.result.specs.Emission.{rowsAfter}
-use Rattle.fit.specs.Misfits.{cellsIn, wrongInRow, wrongColumns, typesIn, setMisfits, rowMisfits, misfitsAt, misfitsFrom, setFrom, setsFrom, firstOf}
+use Rattle.script.specs.Runs.{ahead}
+use Rattle.emission.specs.Walk.{rowsAfter}
+use Rattle.fit.specs.Misfits.{wrongInRow, wrongColumns, typesIn, firstOf}
+use Rattle.fit.specs.Records.{cellsIn, beginMisfits, cellMisfits, misfitsAt, misfitsFrom, setFrom, setsFrom}
 use Rattle.fit.specs.Walks.{RowWalked, ColumnsWalked, Onward, goesOn, SetWalked}
 use Rattle.fit.specs.declared.Misfit.{Misfit}
 use Rattle.fit.specs.declared.Misfit.the-variants.{Classification, Column, Cell}
@@ -39,10 +40,10 @@ module _ (s : List ℕ) (at set row : ℕ) (types : List ℕ) where
   unfolding misfitsFrom misfitsAt rowsAfter setsFrom
   sets-next e = rw (turn s at e)
 
-  -- a row, its misfits before those of what is behind it
+  -- a row, its misfits before those of what is after it
   row-at : {st n : ℕ} → recordAt s at ≡ Record 4 st n
       → misfitsFrom set row types (records (drop at s)) ≡ map (Cell set row) (wrongInRow types (cellsIn (records (drop (st + n) s)))) ++ misfitsFrom set (suc row) types (records (drop (st + n) s))
-  unfolding misfitsFrom misfitsAt rowMisfits rowsAfter
+  unfolding misfitsFrom misfitsAt cellMisfits rowsAfter
   row-at e = rw (turn s at e)
 
 -- ---- the walk's turns
@@ -82,13 +83,13 @@ module _ (s : List ℕ) (set from : ℕ) (types : List ℕ) where
 -- ---- a set's beginning
 
 classified : (set : ℕ) (p : List ℕ) (rs : List Item) → (length p ≡ 0 → ⊥) → firstOf (setFrom set p rs) ≡ No (Classification set)
-unfolding setMisfits
+unfolding beginMisfits
 classified set [] rs h = absurd (h refl)
 classified set (b ∷ p) rs h = refl
 
 unclassified : (set : ℕ) (p : List ℕ) (rs : List Item) → length p ≡ 0
     → setFrom set p rs ≡ map (Column set) (wrongColumns 0 (ahead 2 rs)) ++ misfitsFrom set 0 (typesIn (ahead 2 rs)) rs
-unfolding setMisfits
+unfolding beginMisfits
 unclassified set [] rs h = refl
 unclassified set (b ∷ p) rs h = absurd (omega arith)
 

@@ -11,8 +11,8 @@ use Rattle.script.specs.Records.{records, recordAt}
 use Rattle.script.specs.declared.Found.{Found}
 use Rattle.script.specs.declared.Found.the-variants.{Record}
 use Rattle.script.proofs.Walk.{lies, turn}
-use Rattle.result.specs.Emission.{rowsAfter}
-use Rattle.fit.specs.Misfits.{misfitsAt, misfitsFrom}
+use Rattle.emission.specs.Walk.{rowsAfter}
+use Rattle.fit.specs.Records.{misfitsAt, misfitsFrom}
 use Rattle.fit.specs.Walks.{Skips}
 
 -- the record at a place, whose kind is known by an equation

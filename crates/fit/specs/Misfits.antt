@@ -1,17 +1,15 @@
 -- Which scripts fit, and which misfits the others have (document 01, 'The script': 'fits' and 'misfit' are its terms). Sets,
--- rows, columns and cells are numbered from 0. Rests on script's records, text's surrogates and what result says is emitted.
+-- rows, columns and cells are numbered from 0. Rests on text's surrogates, script's sets and emission's refusals.
 use Prim.Native.Nat.{ℕ, suc}
 use mathlib.Core.List.{List, [], _∷_, _++_, map}
-use mathlib.Core.Bool.{Bool, true, false, cond, not, _&&_}
-use mathlib.Core.Option.{Option, none, some}
+use mathlib.Core.Bool.{Bool, cond, not, _&&_}
 use lib.Dec.{eqb, leb, ltb}
 use lib.ListN.{length, drop}
 use Rattle.wire.specs.Le.{leAt}
 use Rattle.text.specs.Surrogates.{hasPair}
-use Rattle.script.specs.Records.{Item, item, cut, records}
-use Rattle.result.specs.Runs.{ahead}
-use Rattle.result.specs.Emission.{errorIn, rowsAfter}
-use Rattle.result.specs.Refusal.{refusalOf}
+use Rattle.script.specs.Records.{records}
+use Rattle.script.specs.Sets.{ScriptCell, ScriptRow, ScriptSet, setsIn}
+use Rattle.emission.specs.Refusal.{refusalOf}
 use Rattle.fit.specs.declared.Misfit.{Misfit}
 use Rattle.fit.specs.declared.Misfit.the-variants.{Classification, Column, Cell}
 use Rattle.fit.specs.declared.Fit.{Fit}
@@ -29,12 +27,6 @@ cellFits t p =
     (cond (eqb v 8) (eqb t 7)
     (cond (eqb v 9) (eqb t 8)
     (cond (eqb v 10) (leb 1 t && leb t 4) (eqb t v)))))
-
--- a row's cells: the payloads of the kind 5 records that stand next, with chunks among them
-unfoldable pub cellsIn : List Item → List (List ℕ)
-cellsIn [] = []
-cellsIn (cut ∷ rs) = []
-cellsIn (item k p ∷ rs) = cond (eqb k 5) (p ∷ cellsIn rs) (cond (eqb k 6) (cellsIn rs) [])
 
 -- the misfits among cells, from column c on: those not of their column's type, and the smaller count where counts differ
 unfoldable pub wrongCells : ℕ → List ℕ → List (List ℕ) → List ℕ
@@ -63,64 +55,43 @@ wrongColumns c (p ∷ ps) = cond (columnFits c p) (wrongColumns (suc c) ps) (c �
 unfoldable pub typesIn : List (List ℕ) → List ℕ
 typesIn ps = map (leAt 1) ps
 
--- ---- what the records hold, one after another
+-- ---- rows, sets and the script
 
 -- a set's classification is empty
-abbrev pub classMisfits : ℕ → List ℕ → List Misfit
-classMisfits set [] = []
-classMisfits set (b ∷ p) = Classification set ∷ []
+abbrev pub classificationMisfits : ℕ → List ℕ → List Misfit
+classificationMisfits set [] = []
+classificationMisfits set (b ∷ p) = Classification set ∷ []
 
--- the misfits of a set's beginning: its classification p, then the columns that stand next
-unfoldable pub setMisfits : ℕ → List ℕ → List Item → List Misfit
-setMisfits set p rs = classMisfits set p ++ map (Column set) (wrongColumns 0 (ahead 2 rs))
+-- the misfits of a row: those of its cells
+abbrev pub rowMisfits : ℕ → ℕ → List ℕ → ScriptRow → List Misfit
+rowMisfits set row types r = map (Cell set row) (wrongInRow types (map (λ (c : ScriptCell). c .value) (r .cells)))
 
--- the misfits of a row
-unfoldable pub rowMisfits : ℕ → ℕ → List ℕ → List Item → List Misfit
-rowMisfits set row types rs = map (Cell set row) (wrongInRow types (cellsIn rs))
+-- of the rows from one on, whose number is row
+unfoldable pub rowsMisfits : ℕ → ℕ → List ℕ → List ScriptRow → List Misfit
+rowsMisfits set row types [] = []
+rowsMisfits set row types (r ∷ rs) = rowMisfits set row types r ++ rowsMisfits set (suc row) types rs
 
--- the misfits that stand with a record behind the first set's; rs are the records behind it, set the number of its set, row
--- that of the next row, types those of the set's columns
-unfoldable pub misfitsAt : ℕ → ℕ → List ℕ → ℕ → List ℕ → List Item → List Misfit
-misfitsAt set row types k p rs = cond (eqb k 1) (setMisfits (suc set) p rs) (cond (eqb k 4) (rowMisfits set row types rs) [])
+-- of a set: its classification, its columns, its cells by row and column
+unfoldable pub setMisfits : ℕ → ScriptSet → List Misfit
+setMisfits set s =
+    classificationMisfits set (s .classification)
+    ++ map (Column set) (wrongColumns 0 (s .columns))
+    ++ rowsMisfits set 0 (typesIn (s .columns)) (s .rows)
 
--- set and types behind a record
-abbrev pub setAfter : ℕ → ℕ → ℕ
-setAfter set k = cond (eqb k 1) (suc set) set
+-- of the sets from one on, whose number is set
+unfoldable pub setsMisfits : ℕ → List ScriptSet → List Misfit
+setsMisfits set [] = []
+setsMisfits set (s ∷ ss) = setMisfits set s ++ setsMisfits (suc set) ss
 
-abbrev pub typesAfter : List ℕ → ℕ → List Item → List ℕ
-typesAfter types k rs = cond (eqb k 1) (typesIn (ahead 2 rs)) types
+-- nothing where there is an error
+abbrev pub unless : List (List ℕ) → List Misfit → List Misfit
+unless [] ms = ms
+unless (p ∷ ps) ms = []
 
--- the misfits of the records behind the first set's
-unfoldable pub misfitsFrom : ℕ → ℕ → List ℕ → List Item → List Misfit
-misfitsFrom set row types [] = []
-misfitsFrom set row types (cut ∷ rs) = []
-misfitsFrom set row types (item k p ∷ rs) =
-    misfitsAt set row types k p rs ++ misfitsFrom (setAfter set k) (rowsAfter row k) (typesAfter types k rs) rs
-
--- the misfits of the sets from one on, whose number is set, and its classification p
-abbrev pub setFrom : ℕ → List ℕ → List Item → List Misfit
-setFrom set p rs = setMisfits set p rs ++ misfitsFrom set 0 (typesIn (ahead 2 rs)) rs
-
-unfoldable pub setsFrom : ℕ → List Item → List Misfit
-setsFrom set [] = []
-setsFrom set (cut ∷ rs) = []
-setsFrom set (item k p ∷ rs) = setFrom set p rs
-
--- ---- the script
-
-abbrev pub isThere : Option (List ℕ) → Bool
-isThere none = false
-isThere (some p) = true
-
--- a terminal script: kind 8 in its first set
-unfoldable pub terminal : List Item → Bool
-terminal [] = false
-terminal (cut ∷ rs) = false
-terminal (item k p ∷ rs) = isThere (errorIn 8 rs)
-
--- all misfits of a script: by set, in a set its classification, its columns, its cells by row and column; none in a terminal script
-unfoldable pub misfits : List Item → List Misfit
-misfits rs = cond (terminal rs) [] (setsFrom 0 rs)
+-- all misfits of a script's sets, by set; none in a terminal script, which has kind 8 in its first set
+unfoldable pub misfits : List ScriptSet → List Misfit
+misfits [] = []
+misfits (s ∷ ss) = unless (s .terminal) (setsMisfits 0 (s ∷ ss))
 
 -- yes where there is none, else no with the first
 abbrev pub firstOf : List Misfit → Fit
@@ -129,4 +100,4 @@ firstOf (m ∷ ms) = No m
 
 -- what the fit check answers: the script's own refusal, 11 to 17; else whether it fits
 unfoldable pub fitOf : List ℕ → Fit
-fitOf s = cond (eqb (refusalOf s) 0) (firstOf (misfits (records s))) (Refused (refusalOf s))
+fitOf s = cond (eqb (refusalOf s) 0) (firstOf (misfits (setsIn (records s)))) (Refused (refusalOf s))

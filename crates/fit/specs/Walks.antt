@@ -7,8 +7,9 @@ use mathlib.Core.Bool.{Bool, true, cond, not}
 use lib.Dec.{ltb}
 use lib.ListN.{length, take, drop}
 use Rattle.script.specs.Records.{records}
-use Rattle.result.specs.Runs.{ahead}
-use Rattle.fit.specs.Misfits.{cellFits, cellsIn, wrongInRow, wrongColumns, typesIn, misfitsFrom, setsFrom, firstOf}
+use Rattle.script.specs.Runs.{ahead}
+use Rattle.fit.specs.Misfits.{cellFits, wrongInRow, wrongColumns, typesIn, firstOf}
+use Rattle.fit.specs.Records.{cellsIn, misfitsFrom, setsFrom}
 use Rattle.fit.specs.declared.Misfit.{Misfit}
 use Rattle.fit.specs.declared.Fit.{Fit}
 use Rattle.fit.specs.declared.Fit.the-variants.{No}
@@ -34,27 +35,27 @@ cellWrong (t ∷ ts) p = not (cellFits t p)
 unfoldable pub rowEnd : ℕ → ℕ → ℕ → Row
 rowEnd cells columns at = cond (ltb cells columns) (Row.Wrong cells) (Row.Right at)
 
--- a row's cells: the place behind them, or the first misfit
+-- a row's cells: the place after them, or the first misfit
 abbrev pub RowWalked : List ℕ → ℕ → List ℕ → Row → Type 0
 RowWalked s from types (Row.Right to) = (wrongInRow types (cellsIn (records (drop from s))) ≡ []) × Skips s from to
 RowWalked s from types (Row.Wrong n) = First (wrongInRow types (cellsIn (records (drop from s)))) n
 
--- a set's columns: how many there are, with their types, and the place behind them, or the first misfit
+-- a set's columns: how many there are, with their types, and the place after them, or the first misfit
 abbrev pub ColumnsWalked : List ℕ → ℕ → List ℕ → Columns → Type 0
 ColumnsWalked s from types (Columns.Right count to) =
     (count ≤ length types) × (wrongColumns 0 (ahead 2 (records (drop from s))) ≡ []) × (typesIn (ahead 2 (records (drop from s))) ≡ take count types) × Skips s from to
 ColumnsWalked s from types (Columns.Wrong n) = First (wrongColumns 0 (ahead 2 (records (drop from s)))) n
 
--- the first misfit of the sets from one on, whose number is set: its own, or that of the sets behind it
+-- the first misfit of the sets from one on, whose number is set: its own, or that of the sets after it
 abbrev pub goesOn : List ℕ → ℕ → Set → Fit
 goesOn s set (Set.Right to) = firstOf (setsFrom (suc set) (records (drop to s)))
 goesOn s set (Set.Wrong m) = No m
 
--- a set ends behind its beginning
+-- a set ends after its beginning
 abbrev pub Onward : ℕ → Set → Type 0
 Onward from (Set.Right to) = from ≤ to
 Onward from (Set.Wrong m) = Unit {0}
 
--- a set: the place behind it, or its first misfit; ms are the misfits of the records from the place on
+-- a set: the place after it, or its first misfit; ms are the misfits of the records from the place on
 abbrev pub SetWalked : List ℕ → ℕ → ℕ → List Misfit → Set → Type 0
 SetWalked s set from ms r = (firstOf ms ≡ goesOn s set r) × Onward from r

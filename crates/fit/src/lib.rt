@@ -1,12 +1,13 @@
 // The fit check (document 01, 'The script'): whether a script fits, or the first misfit that it has. One pass over the
-// records, with the types of the set's columns at hand, behind the passes that find a script's refusal.
-use result::Measure;
+// records, with the types of the set's columns at hand, after the passes that find a script's refusal.
+use emission::ErrorAt;
+use emission::Measure;
 use script::Found;
 ghost use mathlib.Core.Path.{_≡_};
 ghost use lib.ListN.{length, drop};
 ghost use Rattle.script.specs.Records.{records};
-ghost use Rattle.result.specs.Emission.{errorIn};
-ghost use Rattle.fit.specs.Misfits.{cellFits, columnFits, misfitsFrom, setFrom, setsFrom, isThere, terminal, misfits, firstOf, fitOf};
+ghost use Rattle.fit.specs.Misfits.{cellFits, columnFits, firstOf, fitOf};
+ghost use Rattle.fit.specs.Records.{misfitsFrom, setFrom, setsFrom, terminal, misfitsIn};
 ghost use Rattle.fit.specs.Walks.{cellWrong, rowEnd, RowWalked, ColumnsWalked, SetWalked};
 
 // A misfit: the classification of a set, a column, or a cell. All numbers count from 0.
@@ -56,11 +57,11 @@ fn cell_fits(data_type: u8, p: &[u8]) -> bool
 fn column_fits(column: usize, p: &[u8]) -> bool
     ensures { λ r. ⌜ r ≡ columnFits column (now (p .entry)) ⌝ }
 {
-    let pair = text::has_pair(script::behind(p, 6));
+    let pair = text::has_pair(script::rest_after(p, 6));
     (column < MOST_COLUMNS) & !pair
 }
 
-// A row's cells: all right, with the place behind them, or the number of the first that is wrong.
+// A row's cells: all right, with the place after them, or the number of the first that is wrong.
 enum Row {
     Right(usize),
     Wrong(usize),
@@ -77,10 +78,7 @@ fn walk_row(s: &[u8], from: usize, types: &[u8]) -> Row
     let mut column: usize = 0;
     loop {
         match script::record_at(s, at) {
-            Found::Cut => {
-                return row_end(column, types.len(), at);
-            }
-            Found::End => {
+            Found::Cut | Found::End => {
                 return row_end(column, types.len(), at);
             }
             Found::Record { kind, start, len } => {
@@ -123,7 +121,7 @@ fn row_end(cells: usize, columns: usize, at: usize) -> Row
     }
 }
 
-// A set's columns: all right, with their count and the place behind them, or the number of the first that is wrong.
+// A set's columns: all right, with their count and the place after them, or the number of the first that is wrong.
 enum Columns {
     Right { count: usize, next: usize },
     Wrong(usize),
@@ -138,10 +136,7 @@ fn walk_columns(s: &[u8], from: usize, types: &mut [u8; MOST_COLUMNS]) -> Column
     let mut count: usize = 0;
     loop {
         match script::record_at(s, at) {
-            Found::Cut => {
-                return Columns::Right { count, next: at };
-            }
-            Found::End => {
+            Found::Cut | Found::End => {
                 return Columns::Right { count, next: at };
             }
             Found::Record { kind, start, len } => {
@@ -161,13 +156,13 @@ fn walk_columns(s: &[u8], from: usize, types: &mut [u8; MOST_COLUMNS]) -> Column
     }
 }
 
-// A set: all right, with the place behind it, or its first misfit.
+// A set: all right, with the place after it, or its first misfit.
 enum Set {
     Right(usize),
     Wrong(Misfit),
 }
 
-// The rows of a set, from a place behind its columns on, up to the next set.
+// The rows of a set, from a place after its columns on, up to the next set.
 fn walk_rows(s: &[u8], set: usize, from: usize, types: &[u8]) -> Set
     ensures { λ r. ⌜ SetWalked (now (s .entry)) set from (misfitsFrom set 0 (now (types .entry)) (records (drop from (now (s .entry))))) r ⌝ }
 {
@@ -175,10 +170,7 @@ fn walk_rows(s: &[u8], set: usize, from: usize, types: &[u8]) -> Set
     let mut row: usize = 0;
     loop {
         match script::record_at(s, at) {
-            Found::Cut => {
-                return Set::Right(at);
-            }
-            Found::End => {
+            Found::Cut | Found::End => {
                 return Set::Right(at);
             }
             Found::Record { kind, start, len } => {
@@ -194,9 +186,9 @@ fn walk_rows(s: &[u8], set: usize, from: usize, types: &[u8]) -> Set
                     Row::Wrong(column) => {
                         return Set::Wrong(Misfit::Cell { set, row, column });
                     }
-                    Row::Right(behind) => {
+                    Row::Right(after) => {
                         row += 1;
-                        at = behind;
+                        at = after;
                     }
                 }
             }
@@ -204,11 +196,11 @@ fn walk_rows(s: &[u8], set: usize, from: usize, types: &[u8]) -> Set
     }
 }
 
-// A set whose classification is given, from the place behind its record on.
-fn walk_set(s: &[u8], set: usize, class: &[u8], from: usize) -> Set
-    ensures { λ r. ⌜ SetWalked (now (s .entry)) set from (setFrom set (now (class .entry)) (records (drop from (now (s .entry))))) r ⌝ }
+// A set whose classification is given, from the place after its record on.
+fn walk_set(s: &[u8], set: usize, classification: &[u8], from: usize) -> Set
+    ensures { λ r. ⌜ SetWalked (now (s .entry)) set from (setFrom set (now (classification .entry)) (records (drop from (now (s .entry))))) r ⌝ }
 {
-    if class.len() != 0 {
+    if classification.len() != 0 {
         return Set::Wrong(Misfit::Classification { set });
     }
     let mut types = [0u8; MOST_COLUMNS];
@@ -226,10 +218,7 @@ fn walk_sets(s: &[u8]) -> Fit
     let mut set: usize = 0;
     loop {
         match script::record_at(s, at) {
-            Found::Cut => {
-                return Fit::Yes;
-            }
-            Found::End => {
+            Found::Cut | Found::End => {
                 return Fit::Yes;
             }
             Found::Record {
@@ -242,38 +231,11 @@ fn walk_sets(s: &[u8]) -> Fit
                     Set::Wrong(misfit) => {
                         return Fit::No(misfit);
                     }
-                    Set::Right(behind) => {
+                    Set::Right(after) => {
                         set += 1;
-                        at = behind;
+                        at = after;
                     }
                 }
-            }
-        }
-    }
-}
-
-// Whether a terminal error stands in the set whose columns begin at a place.
-fn has_terminal_error(s: &[u8], from: usize) -> bool
-    ensures { λ r. ⌜ r ≡ isThere (errorIn 8 (records (drop from (now (s .entry))))) ⌝ }
-{
-    let mut at = from;
-    loop {
-        match script::record_at(s, at) {
-            Found::Cut => {
-                return false;
-            }
-            Found::End => {
-                return false;
-            }
-            Found::Record { kind, start, len } => {
-                let next = start + len;
-                if kind == script::TERMINAL_ERROR {
-                    return true;
-                }
-                if !((kind == script::COLUMN) | (kind == script::LEADING_ERROR)) {
-                    return false;
-                }
-                at = next;
             }
         }
     }
@@ -284,19 +246,21 @@ fn is_terminal(s: &[u8]) -> bool
     ensures { λ r. ⌜ r ≡ terminal (records (now (s .entry))) ⌝ }
 {
     match script::record_at(s, 0) {
-        Found::Cut => false,
-        Found::End => false,
+        Found::Cut | Found::End => false,
         Found::Record {
             kind: _,
             start,
             len,
-        } => has_terminal_error(s, start + len),
+        } => match emission::error_in(s, start + len, script::TERMINAL_ERROR) {
+            ErrorAt::At(_) => true,
+            ErrorAt::Missing => false,
+        },
     }
 }
 
 // Whether a script that is not refused fits, or its first misfit.
 fn first_misfit(s: &[u8]) -> Fit
-    ensures { λ r. ⌜ r ≡ firstOf (misfits (records (now (s .entry)))) ⌝ }
+    ensures { λ r. ⌜ r ≡ firstOf (misfitsIn (records (now (s .entry)))) ⌝ }
 {
     if is_terminal(s) {
         return Fit::Yes;
@@ -308,7 +272,7 @@ fn first_misfit(s: &[u8]) -> Fit
 pub fn check(script: &[u8]) -> Fit
     ensures { λ r. ⌜ r ≡ fitOf (now (script .entry)) ⌝ }
 {
-    match result::reply_length(script) {
+    match emission::reply_length(script) {
         Measure::Refused(number) => Fit::Refused(number),
         Measure::Size(_) => first_misfit(script),
     }

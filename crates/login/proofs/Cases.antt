@@ -9,7 +9,7 @@ use lib.Dec.{eqb}
 use Rattle.wire.specs.Le.{le, leAt}
 use Rattle.wire.specs.Be.{be}
 use Rattle.wire.specs.Over.{overwrite}
-use Rattle.wire.specs.Part.{bytesOf}
+use Rattle.wire.specs.Part.{partBytes}
 use Rattle.text.specs.Units.{unitsOf}
 use Rattle.text.specs.Surrogates.{surrogateOf, surrogates, paired, wellFormed}
 use Rattle.login.specs.declared.Byte.{Byte}
@@ -69,7 +69,7 @@ answer (login s lent) = told (parseLogin7 s (length lent)) (idsAfter s lent)
 answer (database s lent) = opens (databaseOf s lent)
 
 -- `be n 0x..` are n bytes in the order of their hexadecimal digits. A body of 60 bytes that has fExtension, and features
--- behind it: ibExtension is 0, and there stands their offset.
+-- after it: ibExtension is 0, and there stands their offset.
 abbrev withFeatures : List ℕ → List ℕ
 withFeatures fs = be 4 0x3c000000 ++ be 24 0x10 ++ be 32 0 ++ fs
 
@@ -140,5 +140,5 @@ table =
     ∷ []
 
 pub cases : map (λ row. answer (row .0)) table ≡ map (λ row. row .1) table
-unfolding table answer le leAt be overwrite bytesOf unitsOf surrogateOf surrogates paired wellFormed textAt hasExtension extension featuresAt walk features idsOf byteAt sessionAfter hasOptions libraryIn libraryAfter workflowAfter tokenAfter versionAfter userAgentAfter databasePart headOf after loginOf parseLogin7 idsAfter databaseOf
+unfolding table answer le leAt be overwrite partBytes unitsOf surrogateOf surrogates paired wellFormed textAt hasExtension extension featuresAt walk features idsOf byteAt sessionAfter hasOptions libraryIn libraryAfter workflowAfter tokenAfter versionAfter userAgentAfter databasePart headOf after loginOf parseLogin7 idsAfter databaseOf
 cases = refl

@@ -15,7 +15,8 @@ use Rattle.login.specs.declared.Feature.{Feature}
 use Rattle.login.specs.declared.Found.{Found}
 use Rattle.login.specs.declared.Found.the-variants.{Here, End}
 use Rattle.login.specs.Body.{featuresAt}
-use Rattle.login.specs.Features.{walk, features, featuresFrom, follow, Lies}
+use Rattle.login.specs.Features.{walk, features}
+use Rattle.login.specs.Inner.{featuresFrom, follow, Lies}
 
 -- bytes that are passed over, as far as they are there
 pass : (n at : ℕ) (l : List ℕ) → walk at n l ≡ walk (at + n) 0 (drop n l)
@@ -72,7 +73,7 @@ past s at =
     (λ h. no-more s (min at (length s)) (omega arith) ∙ sym (no-more s at (omega arith)))
 
 -- What a loop over features needs, from the answer of `feature_at`: no feature, or where the feature lies, and the features
--- from the place on, where the next one is looked for behind its data.
+-- from the place on, where the next one is looked for after its data.
 pub ends : (s : List ℕ) (at : ℕ) {r : Found} → featuresFrom s at ≡ follow s r → r ≡ End → featuresFrom s at ≡ []
 unfolding follow
 ends s at e h = e ∙ ap (follow s) h

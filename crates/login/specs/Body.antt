@@ -6,7 +6,7 @@ use mathlib.Core.Bool.{Bool, cond, _&&_}
 use lib.ListN.{length, drop}
 use lib.Dec.{leb, ltb, eqb}
 use Rattle.wire.specs.Le.{leAt}
-use Rattle.wire.specs.Part.{bytesOf}
+use Rattle.wire.specs.Part.{partBytes}
 use Rattle.wire.specs.declared.Part.{Part}
 use Rattle.text.specs.Surrogates.{wellFormed}
 use Rattle.login.specs.declared.Text.{Text}
@@ -17,14 +17,14 @@ abbrev pub partAt : List ℕ → ℕ → Part
 partAt s entry = record { start = leAt 2 (drop entry s); len = 2 * leAt 2 (drop (entry + 2) s) }
 
 -- a part that ends within the body
-abbrev pub within : List ℕ → Part → Bool
-within s p = leb (p .start + p .len) (length s)
+abbrev pub endsInside : List ℕ → Part → Bool
+endsInside s p = leb (p .start + p .len) (length s)
 
 -- The text of an entry that is whole. An empty one, one that runs past the end and one that is not UTF-16 are none.
 unfoldable pub textAt : List ℕ → ℕ → Text
 textAt s entry =
     let p = partAt s entry in
-    cond (leb (entry + 4) (length s) && ltb 0 (p .len) && within s p && wellFormed (bytesOf s p)) (At p) Missing
+    cond (leb (entry + 4) (length s) && ltb 0 (p .len) && endsInside s p && wellFormed (partBytes s p)) (At p) Missing
 
 -- OptionFlags3 (at 27) has fExtension, and the entry ibExtension (at 56) is whole
 unfoldable pub hasExtension : List ℕ → Bool

@@ -1,15 +1,11 @@
 -- The features of a login (MS-TDS 2.2.6.4, FeatureExt): an id (1 byte), a length (4 bytes) and data, until the terminator FF.
 -- Rests on Body.
-use Prim.Native.Nat.{ℕ, zero, suc, _+_, _≤_}
-use mathlib.Core.Path.{_≡_}
+use Prim.Native.Nat.{ℕ, zero, suc, _+_}
 use mathlib.Core.List.{List, [], _∷_, map}
 use mathlib.Core.Bool.{cond}
-use lib.ListN.{length, drop}
 use lib.Dec.{eqb}
 use Rattle.wire.specs.Le.{leAt}
 use Rattle.login.specs.declared.Feature.{Feature}
-use Rattle.login.specs.declared.Found.{Found}
-use Rattle.login.specs.declared.Found.the-variants.{Here, End}
 use Rattle.login.specs.Body.{featuresAt}
 
 -- The features in the bytes that stand from a place of the body on, of which the first n, the data of the feature before,
@@ -28,23 +24,9 @@ walk at zero (a ∷ b ∷ c ∷ d ∷ e ∷ l) =
     let n = leAt 4 (b ∷ c ∷ d ∷ e ∷ []) in
     cond (eqb a 0xff) [] (record { id = a; part = record { start = at + 5; len = n } } ∷ walk (at + 5) n l)
 
--- the features of a login: those behind all that stands before the first
+-- the features of a login: those after all that stands before the first
 unfoldable pub features : List ℕ → List Feature
 features s = walk 0 (featuresAt s) s
-
--- the features from a place on
-unfoldable pub featuresFrom : List ℕ → ℕ → List Feature
-featuresFrom s at = walk at 0 (drop at s)
-
--- the feature that was found at a place, and those behind it
-unfoldable pub follow : List ℕ → Found → List Feature
-follow s (Here f) = f ∷ featuresFrom s (f .part .start + f .part .len)
-follow s End = []
-
--- where a feature that was found at a place lies: its data start within the body, behind its head
-unfoldable pub Lies : List ℕ → ℕ → Found → Type 0
-Lies s at (Here f) = (f .part .start ≡ at + 5) × (at + 5 ≤ length s)
-Lies s at End = Unit {0}
 
 -- the ids of some features, in their order
 unfoldable pub idsOf : List Feature → List ℕ

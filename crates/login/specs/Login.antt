@@ -4,8 +4,9 @@ use mathlib.Core.List.{List, foldl}
 use mathlib.Core.Bool.{false, cond}
 use lib.ListN.{length}
 use lib.Dec.{ltb}
+use Rattle.refusals.specs.Numbers.{bufferTooShort}
 use Rattle.wire.specs.Over.{overwrite}
-use Rattle.wire.specs.Part.{bytesOf}
+use Rattle.wire.specs.Part.{partBytes}
 use Rattle.login.specs.declared.Byte.the-variants.{Absent}
 use Rattle.login.specs.declared.Text.{Text}
 use Rattle.login.specs.declared.Text.the-variants.{At, Missing}
@@ -36,10 +37,10 @@ headOf s =
       session = false;
     }
 
--- a login behind a feature
+-- a login after a feature
 unfoldable pub after : List ℕ → Login → Feature → Login
 after s l f =
-    let x = bytesOf s (f .part) in
+    let x = partBytes s (f .part) in
     record {
       «has_fedauth» = fedauthAfter f (l .«has_fedauth»);
       «access_token_bytes» = tokenAfter f x (l .«access_token_bytes»);
@@ -60,7 +61,7 @@ loginOf s = foldl (after s) (headOf s) (features s)
 unfoldable pub parseLogin7 : List ℕ → (room : ℕ) → Answer
 parseLogin7 s room =
     let n = length (features s) in
-    cond (ltb room n) (Refused 20) (Read (loginOf s) n)
+    cond (ltb room n) (Refused bufferTooShort) (Read (loginOf s) n)
 
 -- what stands in the lent bytes afterwards: the ids in the first of them, or where there is no room what stood there
 unfoldable pub idsAfter : List ℕ → List ℕ → List ℕ
@@ -68,7 +69,7 @@ idsAfter s old = cond (ltb (length old) (length (features s))) old (overwrite ol
 
 -- a text of a body, or where it has none the lent default
 abbrev pub textOr : Text → List ℕ → List ℕ → List ℕ
-textOr (At p) s other = bytesOf s p
+textOr (At p) s other = partBytes s p
 textOr Missing s other = other
 
 -- the database to open: the login's own, or where it has none the lent default

@@ -47,7 +47,7 @@ unfoldable pub workflowAfter : Feature → List ℕ → Byte → Byte
 workflowAfter f x was = cond (hasOptions f x && eqb (libraryIn x) 2) (byteAt (drop 1 x)) was
 
 -- The token: every FEDAUTH of library 1 that holds a length (4 bytes) and the token sets it. In the Rust its data have six
--- bytes at least, also where the token is empty, and what stands behind the token is not looked at. No feature takes a token
+-- bytes at least, also where the token is empty, and what stands after the token is not looked at. No feature takes a token
 -- back.
 unfoldable pub tokenAfter : Feature → List ℕ → Text → Text
 tokenAfter f x was =

@@ -1,5 +1,6 @@
 // The login (MS-TDS 2.2.6.4, LOGIN7): `parse_login7` of the Rust, and the database to open. A login of any length is read:
 // what it does not hold is missing.
+use refusals::BUFFER_TOO_SHORT;
 use wire::Part;
 ghost use mathlib.Core.Path.{_≡_};
 ghost use mathlib.Core.Bool.{_||_};
@@ -9,7 +10,8 @@ ghost use lib.Dec.{eqb};
 ghost use lib.ListN.{length, drop};
 ghost use Rattle.wire.specs.Over.{overwrite};
 ghost use Rattle.login.specs.Body.{textAt, featuresAt};
-ghost use Rattle.login.specs.Features.{featuresFrom, follow, Lies, idsOf};
+ghost use Rattle.login.specs.Features.{idsOf};
+ghost use Rattle.login.specs.Inner.{featuresFrom, follow, Lies};
 ghost use Rattle.login.specs.Rules.{byteAt, whole, hasOptions, libraryIn, sessionAfter, fedauthAfter, libraryAfter, workflowAfter, tokenAfter, versionAfter, userAgentAfter};
 ghost use Rattle.login.specs.Login.{headOf, after, parseLogin7, idsAfter, databasePart, databaseOf};
 
@@ -43,9 +45,6 @@ pub enum Answer {
     Read { login: Login, ids: usize },
     Refused(u8),
 }
-
-// The bytes lent for the feature ids are too few.
-pub const IDS_TOO_SHORT: u8 = 20;
 
 // Feature ids.
 pub const FEATURE_EXT_SESSION_RECOVERY: u8 = 0x01;
@@ -151,8 +150,8 @@ fn feature_at(body: &[u8], at: usize) -> Found
     })
 }
 
-// The place behind a part, or the end where that comes first.
-fn behind(body: &[u8], part: Part) -> usize
+// The place after a part, or the end where that comes first.
+fn after_part(body: &[u8], part: Part) -> usize
     ensures { λ r. ⌜ r ≡ min (part .start + part .len) (length (now (body .entry))) ⌝ }
 {
     if wire::left(body, part.start) <= part.len {
@@ -297,7 +296,7 @@ fn counts(id: u8) -> bool
         | (id == FEATURE_EXT_USER_AGENT)
 }
 
-// The login behind a feature; most features leave it as it is.
+// The login after a feature; most features leave it as it is.
 fn after(body: &[u8], login: Login, feature: Feature) -> Login
     requires { ⌜ feature .part .start ≤ length (now body) ⌝ }
     ensures { λ r. ⌜ r ≡ after (now (body .entry)) login feature ⌝ }
@@ -308,7 +307,7 @@ fn after(body: &[u8], login: Login, feature: Feature) -> Login
     changed(body, login, feature)
 }
 
-// The login behind a feature, value by value.
+// The login after a feature, value by value.
 fn changed(body: &[u8], login: Login, feature: Feature) -> Login
     requires { ⌜ feature .part .start ≤ length (now body) ⌝ }
     ensures { λ r. ⌜ r ≡ after (now (body .entry)) login feature ⌝ }
@@ -351,13 +350,13 @@ fn head(body: &[u8]) -> Login
     }
 }
 
-// A login behind its features, and how many they are.
+// A login after its features, and how many they are.
 struct Walked {
     login: Login,
     count: usize,
 }
 
-// The login behind all its features, of which the first stands at a place.
+// The login after all its features, of which the first stands at a place.
 fn read_features(body: &[u8], first: usize) -> Walked
     ensures { λ r. ⌜ r .login ≡ foldl (after (now (body .entry))) (headOf (now (body .entry))) (featuresFrom (now (body .entry)) first) ⌝ }
     ensures { λ r. ⌜ r .count ≡ length (featuresFrom (now (body .entry)) first) ⌝ }
@@ -373,7 +372,7 @@ fn read_features(body: &[u8], first: usize) -> Walked
             Found::Here(feature) => {
                 login = after(body, login, feature);
                 count += 1;
-                at = behind(body, feature.part);
+                at = after_part(body, feature.part);
             }
         }
     }
@@ -394,7 +393,7 @@ fn write_ids(body: &[u8], first: usize, ids: &mut [u8])
             Found::Here(feature) => {
                 ids[count] = feature.id;
                 count += 1;
-                at = behind(body, feature.part);
+                at = after_part(body, feature.part);
             }
         }
     }
@@ -411,7 +410,7 @@ pub fn parse_login7(body: &[u8], ids: &mut [u8]) -> Answer
     let login = walked.login;
     let count = walked.count;
     if ids.len() < count {
-        return Answer::Refused(IDS_TOO_SHORT);
+        return Answer::Refused(BUFFER_TOO_SHORT);
     }
     write_ids(body, first, ids);
     Answer::Read { login, ids: count }

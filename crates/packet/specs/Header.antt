@@ -5,6 +5,7 @@ use mathlib.Core.Bool.{cond}
 use mathlib.Core.List.{List, _++_}
 use lib.ListN.{length, drop}
 use lib.Dec.{ltb}
+use Rattle.refusals.specs.Numbers.{headerTooShort, unknownPacketType}
 use Rattle.wire.specs.Le.{leAt, le}
 use Rattle.wire.specs.Be.{beAt, be}
 use Rattle.packet.specs.declared.PacketType.{PacketType}
@@ -30,11 +31,11 @@ headerFor (Known t) s =
       «packet_id» = leAt 1 (drop 6 s);
       window = leAt 1 (drop 7 s);
     })
-headerFor Unknown s = Refused 9
+headerFor Unknown s = Refused unknownPacketType
 
 -- the header at the front of some bytes: 8 under 8 bytes, 9 of an unknown type
 unfoldable pub parsedOf : List ℕ → Parsed
-parsedOf s = cond (ltb (length s) 8) (Refused 8) (headerFor (typeOf (leAt 1 s)) s)
+parsedOf s = cond (ltb (length s) 8) (Refused headerTooShort) (headerFor (typeOf (leAt 1 s)) s)
 
 -- the eight bytes of a header
 unfoldable pub headerBytes : PacketHeader → List ℕ

@@ -1,19 +1,15 @@
 // The packet header (MS-TDS 2.2.3.1): packet types, status, the header's eight bytes read and written, and the wrapping
 // of a reply. Stands for `PacketType`, `PacketStatus`, `PacketHeader` and `wrap_in_packet` of the Rust.
+use refusals::HEADER_TOO_SHORT;
+use refusals::UNKNOWN_PACKET_TYPE;
 ghost use mathlib.Core.Path.{_≡_};
-ghost use Rattle.wire.specs.Over.{overwrite, PlaceBehind};
+ghost use Rattle.wire.specs.Over.{overwrite, PlaceAfter};
 ghost use Rattle.packet.specs.Types.{byteOf, typeOf};
 ghost use Rattle.packet.specs.Status.{hasBit};
 ghost use Rattle.packet.specs.Header.{newHeader, parsedOf, headerBytes};
 ghost use Rattle.packet.specs.Reply.{replyHeader};
 
 pub const PACKET_HEADER_SIZE: usize = 8;
-
-// Refusals of a header, caused by the client.
-// Under 8 bytes.
-pub const HEADER_TOO_SHORT: u8 = 8;
-// A type byte that stands for no packet type.
-pub const UNKNOWN_PACKET_TYPE: u8 = 9;
 
 pub enum PacketType {
     SqlBatch,
@@ -147,10 +143,10 @@ impl PacketHeader {
         }
     }
 
-    // The header's eight bytes at a place of a lent buffer; the answer is the place behind them.
+    // The header's eight bytes at a place of a lent buffer; the answer is the place after them.
     pub fn write(self, buf: &mut [u8], at: usize) -> usize
         ensures { λ _. ⌜ now (buf .exit) ≡ overwrite (now (buf .entry)) at (headerBytes self) ⌝ }
-        ensures { λ r. ⌜ PlaceBehind (now (buf .entry)) at (headerBytes self) r ⌝ }
+        ensures { λ r. ⌜ PlaceAfter (now (buf .entry)) at (headerBytes self) r ⌝ }
     {
         let packet_type = self.packet_type;
         let next = wire::put_u8(buf, at, packet_type.byte());
@@ -162,10 +158,10 @@ impl PacketHeader {
     }
 }
 
-// A reply's header at the buffer's front, where its payload stands or is to stand behind it: length is that of the whole packet.
+// A reply's header at the buffer's front, where its payload stands or is to stand after it: length is that of the whole packet.
 pub fn write_reply_header(buf: &mut [u8], length: u16) -> usize
     ensures { λ _. ⌜ now (buf .exit) ≡ overwrite (now (buf .entry)) 0 (replyHeader length) ⌝ }
-    ensures { λ r. ⌜ PlaceBehind (now (buf .entry)) 0 (replyHeader length) r ⌝ }
+    ensures { λ r. ⌜ PlaceAfter (now (buf .entry)) 0 (replyHeader length) r ⌝ }
 {
     PacketHeader::new(PacketType::TabularResult, length, 1).write(buf, 0)
 }

@@ -1,31 +1,27 @@
--- What a position that can be tells: where it stands, and of which types are the columns that it holds. Assumes nothing.
+-- What is known of a position that is not refused: its counts, and that the types that it holds are column types. Assumes nothing.
 use mathlib.Core.Path.{_≡_, ap}
 use mathlib.Core.Bool.{Bool, true, _&&_}
 use mathlib.Core.List.{List}
-use Prim.Native.Nat.{ℕ, zero, suc, _-_, _≤_, _<_}
+use Prim.Native.Nat.{ℕ, zero, suc, _+_, _-_, _≤_, _<_}
 use native.Mathlib.Omega.{arith}
 use native.Mathlib.Decide.{decLe}
 use native.Mathlib.Nat.{lt-of-not-le}
 use lib.Dec.{leb}
 use lib.ListN.{getD}
 use borrow.Author.Tests.{leb-true}
-use Rattle.reader.proofs.Types.{both}
+use Rattle.cells.proofs.Types.{both}
 use Rattle.reader.specs.declared.Position.{Position}
-use Rattle.reader.specs.Places.{inPacket}
-use Rattle.reader.specs.Cells.{isType}
+use Rattle.payload.specs.Places.{inPacket}
+use Rattle.cells.specs.Cells.{isType}
 use Rattle.reader.specs.Positions.{held, stands}
 
 -- ---- held types
 
--- one turn of the test, from the last type down
-pub held-at : (n : ℕ) (types limits : List ℕ) → 0 < n
-    → held n types limits ≡ (isType (getD types (n - 1) 0) (getD limits (n - 1) 0) && held (n - 1) types limits)
+-- one turn of the test
+pub held-next : (n : ℕ) (types limits : List ℕ)
+    → held (n + 1) types limits ≡ (isType (getD types n 0) (getD limits n 0) && held n types limits)
 unfolding held
-held-at n types limits h = let e : n ≡ suc (n - 1) = omega arith in ap (λ (k : ℕ). held k types limits) e
-
-pub held-none : (n : ℕ) (types limits : List ℕ) → n ≤ 0 → held n types limits ≡ true
-unfolding held
-held-none n types limits h = let e : n ≡ 0 = omega arith in rw e
+held-next n types limits = let e : n + 1 ≡ suc n = omega arith in ap (λ (k : ℕ). held k types limits) e
 
 -- each of the types
 pub held-each : (n : ℕ) (types limits : List ℕ) (i : ℕ) → held n types limits ≡ true → i < n → isType (getD types i 0) (getD limits i 0) ≡ true
@@ -42,16 +38,16 @@ held-each (suc n) types limits i e h =
 
 pub record Standing (p : List ℕ) (pos : Position) : Type 0 where
   pub few : pos .count ≤ 128
-  pub columns : pos .columns ≤ pos .count
-  pub cells : pos .cells ≤ pos .count
-  pub types : held (pos .count - pos .columns) (pos .types) (pos .limits) ≡ true
+  pub columns : pos .«columns_left» ≤ pos .count
+  pub cells : pos .«cells_left» ≤ pos .count
+  pub types : held (pos .count - pos .«columns_left») (pos .types) (pos .limits) ≡ true
 
 pub standing : (p : List ℕ) (pos : Position) → stands p pos ≡ true → Standing p pos
 unfolding stands
 standing p pos e =
-    let h : Bool = held (pos .count - pos .columns) (pos .types) (pos .limits) in
-    let cells : Bool = leb (pos .cells) (pos .count) in
-    let columns : Bool = leb (pos .columns) (pos .count) in
+    let h : Bool = held (pos .count - pos .«columns_left») (pos .types) (pos .limits) in
+    let cells : Bool = leb (pos .«cells_left») (pos .count) in
+    let columns : Bool = leb (pos .«columns_left») (pos .count) in
     let few : Bool = leb (pos .count) 128 in
     let place : Bool = inPacket p (pos .place) in
     let e1 = both (place && few && columns && cells) h e in

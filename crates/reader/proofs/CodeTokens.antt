@@ -1,29 +1,28 @@
--- The texts of a message read by themselves. Assumes nothing.
-use mathlib.Core.Path.{_≡_, refl}
-use mathlib.Core.List.{List}
-use Prim.Native.Nat.{ℕ, _-_}
+-- What the answers for a token and for the texts of a message tell. Assumes nothing.
+use mathlib.Core.Path.{_≡_}
+use Prim.Native.Nat.{ℕ}
 use Rattle.reader.specs.declared.Token.{Token}
-use Rattle.reader.specs.declared.Token.the-variants.{Message}
 use Rattle.reader.specs.declared.token_reader.Texts.{Texts}
-use Rattle.reader.specs.Places.{Place, Read, whole, numberAt, then}
-use Rattle.reader.specs.Tokens.{textAt}
-use Rattle.reader.specs.Code.{textsAt}
-use Rattle.reader.proofs.CodeReads.{then-over, number-over}
+use Rattle.reader.specs.declared.token_reader.TextsRead.{TextsRead}
+use Rattle.reader.specs.declared.token_reader.TextsRead.the-variants as texts
+use Rattle.reader.specs.declared.token_reader.TokenRead.{TokenRead}
+use Rattle.reader.specs.declared.token_reader.TokenRead.the-variants as token
+use Rattle.payload.specs.Places.{Read, whole, refused}
+use Rattle.reader.specs.Code.{tokenRead, textsRead}
+use Rattle.payload.proofs.CodeReads.{clash}
 
-abbrev messageOf : ℕ → ℕ → ℕ → ℕ → Texts → Place → Read Token
-messageOf kind number state class t at = whole (Message kind number state class (t .text) (t .server) (t .procedure) (t .line)) at
+pub texts-is : (x : Read Texts) {r : TextsRead} {t : Texts} {to : ℕ} → r ≡ textsRead x → r ≡ texts.Whole t to → x ≡ whole t to
+texts-is (whole u at) {t = t} {to = to} e f = let p : u ≡ t = cc in let q : at ≡ to = cc in rw (p, q)
+texts-is (refused m) e f = clash (cc)
 
-pub message-texts : (kind number state class room : ℕ) (p : List ℕ) (at : ℕ)
-    → (then (textAt 2 room 1020 p at) λ text a1.
-    then (textAt 1 (room - text .len) 510 p a1) λ server a2.
-    then (textAt 1 (room - text .len - server .len) 0 p a2) λ procedure a3.
-    numberAt 4 p a3 λ line a4.
-    whole (Message kind number state class text server procedure line) a4)
-    ≡ then (textsAt room p at) (messageOf kind number state class)
-unfolding textsAt then
-message-texts kind number state class room p at =
-    let go = messageOf kind number state class in
-    then-over go (textAt 2 room 1020 p at) _ _ (λ text a1.
-    then-over go (textAt 1 (room - text .len) 510 p a1) _ _ (λ server a2.
-    then-over go (textAt 1 (room - text .len - server .len) 0 p a2) _ _ (λ procedure a3.
-    number-over go 4 p a3 _ _ (λ line a4. refl))))
+pub texts-is-not : (x : Read Texts) {r : TextsRead} {m : ℕ} → r ≡ textsRead x → r ≡ texts.Refused m → x ≡ refused m
+texts-is-not (whole v to) e f = clash (cc)
+texts-is-not (refused n) e f = cc
+
+pub token-is : (x : Read Token) {r : TokenRead} {t : Token} {to : ℕ} → r ≡ tokenRead x → r ≡ token.Whole t to → x ≡ whole t to
+token-is (whole u at) {t = t} {to = to} e f = let p : u ≡ t = cc in let q : at ≡ to = cc in rw (p, q)
+token-is (refused m) e f = clash (cc)
+
+pub token-is-not : (x : Read Token) {r : TokenRead} {m : ℕ} → r ≡ tokenRead x → r ≡ token.Refused m → x ≡ refused m
+token-is-not (whole v to) e f = clash (cc)
+token-is-not (refused n) e f = cc

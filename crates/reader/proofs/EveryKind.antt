@@ -9,15 +9,15 @@ use Rattle.wire.specs.Fields.{flat}
 use Rattle.packet.specs.Status.{hasBit}
 use Rattle.packet.specs.Reply.{replyHeader, packetOf}
 use Rattle.wire.specs.Be.{be}
-use Rattle.text.specs.Units.{unitsOf}
+use Rattle.text.specs.Units.{unitsOf, units}
 use Rattle.text.specs.Surrogates.{surrogateOf, surrogates, paired, anyHigh, wellFormed, hasPair}
 use Rattle.token.specs.Types.{lengthWidth, collationSize}
-use Rattle.token.specs.Tokens.{Token, metadata, column, row, cell, done, message, Sent, integer, noInteger, bounded, long, noLong, nameCount, messageLength, bytesOf, states}
-use Rattle.reader.specs.Cells.{isType}
+use Rattle.token.specs.Tokens.{Token, metadata, column, row, cell, done, message, EncodedCell, integer, noInteger, bounded, long, noLong, nameCount, messageLength, tokenBytes, states}
+use Rattle.cells.specs.Cells.{isType}
 use Rattle.reader.specs.Positions.{freshPosition}
 use Rattle.reader.specs.Reader.{answerOf}
-use Rattle.reader.specs.Meaning.{tell, kth}
-use Rattle.reader.specs.WellFormed.{WellFormed, tokensPacket}
+use Rattle.reader.specs.Meaning.{meaningOf, kth}
+use Rattle.reader.proofs.WellFormed.{WellFormed, tokensPacket}
 use Rattle.reader.proofs.Sendable.{column-ok, done-ok, message-ok, metadata-then, column-then, row-then, cell-then, message-then, done-then, done-last}
 use Rattle.reader.proofs.ReadBack.{reads-back}
 
@@ -27,7 +27,7 @@ a = 0x41 ∷ 0 ∷ []
 abbrev collation : List ℕ
 collation = 9 ∷ 4 ∷ 0xD0 ∷ 0 ∷ 0x34 ∷ []
 
-abbrev pub every-kind : List (Token Sent)
+abbrev pub every-kind : List (Token EncodedCell)
 every-kind =
     message 0xAA 5 1 16 a [] [] 1 ∷ done 3 0xC1 0 ∷ metadata 4
     ∷ column 0 0 0x26 2 [] a ∷ column 0 0 0xE7 8000 collation [] ∷ column 0 0 0xE7 0xFFFF collation [] ∷ column 0 0 0xA5 0xFFFF [] []
@@ -37,7 +37,7 @@ every-kind =
     ∷ done 1 0xC1 2 ∷ metadata 0 ∷ done 0 0xC1 0 ∷ []
 
 pub well-formed : WellFormed every-kind
-unfolding isType hasBit collationSize wellFormed hasPair surrogates surrogateOf paired anyHigh unitsOf leAt
+unfolding isType hasBit collationSize wellFormed hasPair surrogates surrogateOf paired anyHigh unitsOf units leAt
 well-formed =
     message-then (message-ok refl (omega arith) (omega arith) (omega arith) (omega arith) refl refl (omega arith) refl (omega arith))
     (done-then (done-ok (omega arith) (omega arith) (omega arith)) refl
@@ -61,6 +61,6 @@ well-formed =
     (metadata-then (omega arith)
     (done-last (done-ok (omega arith) (omega arith) (omega arith)) refl))))))))))))))))))))
 
-pub comes-back : (k : ℕ) → tell (tokensPacket every-kind) (answerOf k (tokensPacket every-kind) freshPosition) ≡ kth (map states every-kind) k
-unfolding tokensPacket packetOf replyHeader be le flat bytesOf lengthWidth nameCount messageLength
+pub comes-back : (k : ℕ) → meaningOf (tokensPacket every-kind) (answerOf k (tokensPacket every-kind) freshPosition) ≡ kth (map states every-kind) k
+unfolding tokensPacket packetOf replyHeader be le flat tokenBytes lengthWidth nameCount messageLength
 comes-back k = reads-back every-kind well-formed (omega arith) k

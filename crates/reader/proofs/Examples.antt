@@ -1,4 +1,4 @@
--- Worked packets: what a run over each tells, in one table that one theorem covers by computation. Cases 1 to 3 of document 01,
+-- Worked packets: what a run over each means, in one table that one theorem covers by computation. Cases 1 to 3 of document 01,
 -- a message, cells, and the refusals of a sender. Assumes nothing.
 use mathlib.Core.Path.{_≡_, refl}
 use mathlib.Core.Bool.{false}
@@ -8,7 +8,7 @@ use lib.IntN.{pos, negsuc}
 use lib.ListN.{length, replicate}
 use Rattle.wire.specs.Le.{leAt, le}
 use Rattle.wire.specs.Be.{beAt, be, first}
-use Rattle.wire.specs.Part.{bytesOf}
+use Rattle.wire.specs.Part.{partBytes}
 use Rattle.packet.specs.Types.{types, typeIn, typeOf}
 use Rattle.packet.specs.Status.{hasBit}
 use Rattle.packet.specs.Header.{parsedOf}
@@ -16,12 +16,13 @@ use Rattle.packet.specs.Reply.{replyHeader, packetOf}
 use Rattle.token.specs.Types.{lengthWidth, collationSize}
 use Rattle.token.specs.Tokens.{metadata, column, row, cell, done, message, number, part, null, signed}
 use Rattle.reader.specs.declared.Position.{Position}
-use Rattle.reader.specs.Places.{numberAt, partAt, must, then}
-use Rattle.reader.specs.Cells.{isCode, isType, typeAt, integerAt, boundedAt, isChunk, isLast, chunksAt, maxAt, cellAt}
-use Rattle.reader.specs.Tokens.{columnAt, metadataAt, rowAt, doneAt, textAt, messageAt, tokenAt}
+use Rattle.payload.specs.Places.{numberAt, partAt, must, then}
+use Rattle.cells.specs.Cells.{isCode, isType, typeAt, integerAt, boundedAt, isChunk, isLast, chunkAt, chunksAt, maxAt, cellAt}
+use Rattle.reader.specs.ReadTokens.{columnAt, metadataAt, rowAt, doneAt, textAt, textsAt, messageAt, tokenAt}
 use Rattle.reader.specs.Positions.{freshPosition, held, stands, after}
 use Rattle.reader.specs.Reader.{rowCellAt, nextAt, isReply, stepOf}
-use Rattle.reader.specs.Meaning.{chunkBytes, Told, told, ended, refusal, tell}
+use Rattle.cells.specs.Values.{chunkBytes}
+use Rattle.reader.specs.Meaning.{Meaning, token, ended, refusal, meaningOf}
 
 -- ---- pieces of payloads
 
@@ -63,35 +64,35 @@ error1 size units = 0xAA ∷ size ∷ 0 ∷ 1 ∷ 0 ∷ 0 ∷ 0 ∷ 2 ∷ 3 ∷ 
 abbrev error2 : ℕ → ℕ → List ℕ
 error2 size units = error1 size 1 ++ (0x41 ∷ 0 ∷ units ∷ [])
 
--- ---- what they tell
+-- ---- what they mean
 
-abbrev toldRow : ℕ → ℕ → List ℕ → List Told → List Told
-toldRow code limit collation ts = told (metadata 1) ∷ told (column 0 0 code limit collation []) ∷ told row ∷ ts
+abbrev rowRead : ℕ → ℕ → List ℕ → List Meaning → List Meaning
+rowRead code limit collation ts = token (metadata 1) ∷ token (column 0 0 code limit collation []) ∷ token row ∷ ts
 
-abbrev toldSmall : List Told → List Told
-toldSmall ts = toldRow 0x26 2 [] ts
+abbrev smallRead : List Meaning → List Meaning
+smallRead ts = rowRead 0x26 2 [] ts
 
-abbrev toldText : List Told → List Told
-toldText ts = toldRow 0xE7 4 collation ts
+abbrev textRead : List Meaning → List Meaning
+textRead ts = rowRead 0xE7 4 collation ts
 
-abbrev toldMax : List Told → List Told
-toldMax ts = toldRow 0xE7 0xFFFF collation ts
+abbrev maxRead : List Meaning → List Meaning
+maxRead ts = rowRead 0xE7 0xFFFF collation ts
 
-abbrev toldBytes : List Told → List Told
-toldBytes ts = toldRow 0xA5 0xFFFF [] ts
+abbrev bytesRead : List Meaning → List Meaning
+bytesRead ts = rowRead 0xA5 0xFFFF [] ts
 
 -- ---- the table
 
--- a packet, where a run over it starts, and what its first answers tell
-record Example : Type 0 where
-  packet : List ℕ
-  from : Position
-  tells : List Told
+-- a packet, where a run over it starts, and what its first answers mean
+pub record Example : Type 0 where
+  pub packet : List ℕ
+  pub from : Position
+  pub meanings : List Meaning
 
-abbrev over : List ℕ → List Told → Example
-over p ts = record { packet = p; from = freshPosition; tells = ts }
+abbrev over : List ℕ → List Meaning → Example
+over p ts = record { packet = p; from = freshPosition; meanings = ts }
 
-abbrev reply : List ℕ → List Told → Example
+abbrev reply : List ℕ → List Meaning → Example
 reply payload ts = over (packetOf payload) ts
 
 -- a reply whose first step is refused, and so the next
@@ -99,36 +100,36 @@ abbrev refuses : ℕ → List ℕ → Example
 refuses n payload = reply payload (refusal n ∷ refusal n ∷ [])
 
 -- a position of a count, columns and cells to come and one held type, over a reply that is one DONE
-abbrev forged : ℕ → ℕ → ℕ → ℕ → ℕ → ℕ → Told → Example
+abbrev forged : ℕ → ℕ → ℕ → ℕ → ℕ → ℕ → Meaning → Example
 forged place count columns cells code limit t =
     record {
       packet = packetOf (doneOf 0 0);
-      from = record { place = place; count = count; types = code ∷ replicate 127 0x26; limits = limit ∷ replicate 127 1; columns = columns; cells = cells; over = false };
-      tells = t ∷ [];
+      from = record { place = place; count = count; types = code ∷ replicate 127 0x26; limits = limit ∷ replicate 127 1; «columns_left» = columns; «cells_left» = cells; over = false };
+      meanings = t ∷ [];
     }
 
-abbrev replies : List Example
+abbrev pub replies : List Example
 replies =
     over (0x04 ∷ 0x01 ∷ 0x00 ∷ 0x18 ∷ 0 ∷ 0 ∷ 1 ∷ 0 ∷ 0x81 ∷ 0 ∷ 0 ∷ doneOf 0 0)
-    (told (metadata 0) ∷ told (done 0 0xC1 0) ∷ ended ∷ ended ∷ [])
+    (token (metadata 0) ∷ token (done 0 0xC1 0) ∷ ended ∷ ended ∷ [])
     ∷ over (0x04 ∷ 0x01 ∷ 0x00 ∷ 41 ∷ 0 ∷ 0 ∷ 1 ∷ 0 ∷ column1 ++ (0x26 ∷ 4 ∷ 1 ∷ 0x6E ∷ 0 ∷ 0xD1 ∷ 4 ∷ 7 ∷ 0 ∷ 0 ∷ 0 ∷ doneOf 0 1))
-    (told (metadata 1) ∷ told (column 0 0 0x26 4 [] (0x6E ∷ 0 ∷ [])) ∷ told row ∷ told (cell (number (pos 7))) ∷ told (done 0 0xC1 1) ∷ ended ∷ [])
+    (token (metadata 1) ∷ token (column 0 0 0x26 4 [] (0x6E ∷ 0 ∷ [])) ∷ token row ∷ token (cell (number (pos 7))) ∷ token (done 0 0xC1 1) ∷ ended ∷ [])
     ∷ over (0x04 ∷ 0x01 ∷ 0x00 ∷ 40 ∷ 0 ∷ 0 ∷ 1 ∷ 0 ∷ 0x81 ∷ 0 ∷ 0 ∷ doneOf 1 0 ++ (0x81 ∷ 0 ∷ 0 ∷ doneOf 0 0))
-    (told (metadata 0) ∷ told (done 1 0xC1 0) ∷ told (metadata 0) ∷ told (done 0 0xC1 0) ∷ ended ∷ [])
+    (token (metadata 0) ∷ token (done 1 0xC1 0) ∷ token (metadata 0) ∷ token (done 0 0xC1 0) ∷ ended ∷ [])
     ∷ reply (error2 18 1 ++ (0x42 ∷ 0 ∷ 0 ∷ 7 ∷ 0 ∷ 0 ∷ 0 ∷ doneOf 2 0))
-    (told (message 0xAA 1 2 3 (0x41 ∷ 0 ∷ []) (0x42 ∷ 0 ∷ []) [] 7) ∷ told (done 2 0xC1 0) ∷ ended ∷ [])
+    (token (message 0xAA 1 2 3 (0x41 ∷ 0 ∷ []) (0x42 ∷ 0 ∷ []) [] 7) ∷ token (done 2 0xC1 0) ∷ ended ∷ [])
     ∷ reply (smallint (2 ∷ 0 ∷ 0x80 ∷ 0xD1 ∷ 0 ∷ doneOf 0 2))
-    (toldSmall (told (cell (number (negsuc 32767))) ∷ told row ∷ told (cell null) ∷ told (done 0 0xC1 2) ∷ ended ∷ []))
+    (smallRead (token (cell (number (negsuc 32767))) ∷ token row ∷ token (cell null) ∷ token (done 0 0xC1 2) ∷ ended ∷ []))
     ∷ reply (nvarchar (2 ∷ 0 ∷ 0x41 ∷ 0 ∷ 0xD1 ∷ 0xFF ∷ 0xFF ∷ doneOf 0 2))
-    (toldText (told (cell (part (0x41 ∷ 0 ∷ []))) ∷ told row ∷ told (cell null) ∷ told (done 0 0xC1 2) ∷ ended ∷ []))
+    (textRead (token (cell (part (0x41 ∷ 0 ∷ []))) ∷ token row ∷ token (cell null) ∷ token (done 0 0xC1 2) ∷ ended ∷ []))
     ∷ reply (nvarcharMax (total 4 0 (chunk (0x41 ∷ 0 ∷ []) (chunk (0x42 ∷ 0 ∷ []) (chunk [] (0xD1 ∷ total 0xFF 0xFF (doneOf 0 2)))))))
-    (toldMax (told (cell (part (0x41 ∷ 0 ∷ 0x42 ∷ 0 ∷ []))) ∷ told row ∷ told (cell null) ∷ told (done 0 0xC1 2) ∷ ended ∷ []))
+    (maxRead (token (cell (part (0x41 ∷ 0 ∷ 0x42 ∷ 0 ∷ []))) ∷ token row ∷ token (cell null) ∷ token (done 0 0xC1 2) ∷ ended ∷ []))
     ∷ reply (varbinaryMax (total 0xFE 0xFF (chunk (1 ∷ []) (chunk (2 ∷ 3 ∷ []) (chunk [] (0xD1 ∷ total 0 0 (chunk [] (doneOf 0 2))))))))
-    (toldBytes (told (cell (part (1 ∷ 2 ∷ 3 ∷ []))) ∷ told row ∷ told (cell (part [])) ∷ told (done 0 0xC1 2) ∷ ended ∷ []))
+    (bytesRead (token (cell (part (1 ∷ 2 ∷ 3 ∷ []))) ∷ token row ∷ token (cell (part [])) ∷ token (done 0 0xC1 2) ∷ ended ∷ []))
     ∷ []
 
 -- 8 and 9, 23, 24 of the packet's end, 25, 27, 28
-abbrev framed : List Example
+abbrev pub framed : List Example
 framed =
     over (4 ∷ 1 ∷ 0 ∷ 7 ∷ 0 ∷ 0 ∷ 1 ∷ []) (refusal 8 ∷ [])
     ∷ over (0x02 ∷ 1 ∷ 0 ∷ 8 ∷ 0 ∷ 0 ∷ 1 ∷ 0 ∷ []) (refusal 9 ∷ [])
@@ -137,30 +138,30 @@ framed =
     ∷ over (4 ∷ 1 ∷ 0 ∷ 9 ∷ 0 ∷ 0 ∷ 1 ∷ 0 ∷ []) (refusal 23 ∷ [])
     ∷ refuses 24 []
     ∷ refuses 24 (0xFD ∷ 0 ∷ [])
-    ∷ reply (doneOf 1 0) (told (done 1 0xC1 0) ∷ refusal 24 ∷ [])
+    ∷ reply (doneOf 1 0) (token (done 1 0xC1 0) ∷ refusal 24 ∷ [])
     ∷ refuses 25 (0xD2 ∷ [])
     ∷ refuses 27 (0x81 ∷ 129 ∷ 0 ∷ [])
     ∷ refuses 24 (0x81 ∷ 129 ∷ [])
     ∷ refuses 28 (0xD1 ∷ [])
-    ∷ reply (smallint (2 ∷ 0 ∷ 0 ∷ doneOf 1 1 ++ (0xD1 ∷ []))) (toldSmall (told (cell (number (pos 0))) ∷ told (done 1 0xC1 1) ∷ refusal 28 ∷ []))
+    ∷ reply (smallint (2 ∷ 0 ∷ 0 ∷ doneOf 1 1 ++ (0xD1 ∷ []))) (smallRead (token (cell (number (pos 0))) ∷ token (done 1 0xC1 1) ∷ refusal 28 ∷ []))
     ∷ []
 
--- 26 at the field that is at fault, even where the packet is cut behind it
-abbrev wrong : List Example
+-- 26 at the field that is at fault, even where the packet is cut after it
+abbrev pub wrong : List Example
 wrong =
-    reply (doneOf 0 0 ++ (0xD1 ∷ [])) (told (done 0 0xC1 0) ∷ refusal 26 ∷ refusal 26 ∷ [])
-    ∷ reply (column1 ++ (0x38 ∷ [])) (told (metadata 1) ∷ refusal 26 ∷ [])
-    ∷ reply (column1 ++ (0x26 ∷ 3 ∷ [])) (told (metadata 1) ∷ refusal 26 ∷ [])
-    ∷ reply (column1 ++ (0xE7 ∷ 0x41 ∷ 0x1F ∷ [])) (told (metadata 1) ∷ refusal 26 ∷ [])
-    ∷ reply (column1 ++ (0xA7 ∷ 4 ∷ 0 ∷ [])) (told (metadata 1) ∷ refusal 26 ∷ [])
-    ∷ reply (smallint (1 ∷ [])) (toldSmall (refusal 26 ∷ []))
-    ∷ reply (nvarchar (3 ∷ 0 ∷ [])) (toldText (refusal 26 ∷ []))
-    ∷ reply (nvarchar (6 ∷ 0 ∷ [])) (toldText (refusal 26 ∷ []))
-    ∷ reply (nvarcharMax (total 3 0 [])) (toldMax (refusal 26 ∷ []))
-    ∷ reply (nvarcharMax (total 2 0 (4 ∷ 0 ∷ 0 ∷ 0 ∷ []))) (toldMax (refusal 26 ∷ []))
-    ∷ reply (nvarcharMax (total 2 0 (0 ∷ 0 ∷ 0 ∷ 0 ∷ []))) (toldMax (refusal 26 ∷ []))
-    ∷ reply (nvarcharMax (total 0xFE 0xFF (3 ∷ 0 ∷ 0 ∷ 0 ∷ []))) (toldMax (refusal 26 ∷ []))
-    ∷ reply (nvarcharMax (total 0xFE 0xFF (4 ∷ 0 ∷ 0 ∷ []))) (toldMax (refusal 24 ∷ []))
+    reply (doneOf 0 0 ++ (0xD1 ∷ [])) (token (done 0 0xC1 0) ∷ refusal 26 ∷ refusal 26 ∷ [])
+    ∷ reply (column1 ++ (0x38 ∷ [])) (token (metadata 1) ∷ refusal 26 ∷ [])
+    ∷ reply (column1 ++ (0x26 ∷ 3 ∷ [])) (token (metadata 1) ∷ refusal 26 ∷ [])
+    ∷ reply (column1 ++ (0xE7 ∷ 0x41 ∷ 0x1F ∷ [])) (token (metadata 1) ∷ refusal 26 ∷ [])
+    ∷ reply (column1 ++ (0xA7 ∷ 4 ∷ 0 ∷ [])) (token (metadata 1) ∷ refusal 26 ∷ [])
+    ∷ reply (smallint (1 ∷ [])) (smallRead (refusal 26 ∷ []))
+    ∷ reply (nvarchar (3 ∷ 0 ∷ [])) (textRead (refusal 26 ∷ []))
+    ∷ reply (nvarchar (6 ∷ 0 ∷ [])) (textRead (refusal 26 ∷ []))
+    ∷ reply (nvarcharMax (total 3 0 [])) (maxRead (refusal 26 ∷ []))
+    ∷ reply (nvarcharMax (total 2 0 (4 ∷ 0 ∷ 0 ∷ 0 ∷ []))) (maxRead (refusal 26 ∷ []))
+    ∷ reply (nvarcharMax (total 2 0 (0 ∷ 0 ∷ 0 ∷ 0 ∷ []))) (maxRead (refusal 26 ∷ []))
+    ∷ reply (nvarcharMax (total 0xFE 0xFF (3 ∷ 0 ∷ 0 ∷ 0 ∷ []))) (maxRead (refusal 26 ∷ []))
+    ∷ reply (nvarcharMax (total 0xFE 0xFF (4 ∷ 0 ∷ 0 ∷ []))) (maxRead (refusal 24 ∷ []))
     ∷ refuses 26 (0xAB ∷ 12 ∷ 0 ∷ [])
     ∷ refuses 26 (0xAB ∷ 15 ∷ 0 ∷ [])
     ∷ refuses 26 (error1 16 2)
@@ -171,10 +172,10 @@ wrong =
     ∷ refuses 24 (error2 18 0 ++ (1 ∷ []))
     ∷ []
 
--- 24 for a position that cannot be: in the header, past the end, of 129 columns, past its columns or cells, of a type that is none
-abbrev positions : List Example
+-- 24 for a position in the header, past the end, of 129 columns, past its columns or cells, or that holds a type that is none
+abbrev pub positions : List Example
 positions =
-    forged 8 1 0 0 0x26 4 (told (done 0 0xC1 0))
+    forged 8 1 0 0 0x26 4 (token (done 0 0xC1 0))
     ∷ forged 7 0 0 0 0x26 4 (refusal 24)
     ∷ forged 22 0 0 0 0x26 4 (refusal 24)
     ∷ forged 8 129 0 0 0x26 4 (refusal 24)
@@ -184,14 +185,15 @@ positions =
     ∷ forged 8 1 0 0 0xE7 0 (refusal 24)
     ∷ []
 
--- what the first k answers of a run tell
-abbrev trace : ℕ → List ℕ → Position → List Told
+-- what the first k answers of a run mean
+abbrev pub trace : ℕ → List ℕ → Position → List Meaning
 trace zero p at = []
-trace (suc k) p at = tell p (stepOf p at .answer) ∷ trace k p (stepOf p at .next)
+trace (suc k) p at = meaningOf p (stepOf p at .answer) ∷ trace k p (stepOf p at .next)
 
-table : List Example
-table = replies ++ framed ++ wrong ++ positions
+unfoldable pub examples : List Example
+examples = replies ++ framed ++ wrong ++ positions
 
-all-told : map (λ e. trace (length (e .tells)) (e .packet) (e .from)) table ≡ map (λ e. e .tells) table
-unfolding table leAt le beAt be first bytesOf types typeIn typeOf hasBit parsedOf replyHeader packetOf lengthWidth collationSize signed numberAt partAt must then isCode isType typeAt integerAt boundedAt isChunk isLast chunksAt maxAt cellAt columnAt metadataAt rowAt doneAt textAt messageAt tokenAt held stands after rowCellAt nextAt isReply stepOf chunkBytes
-all-told = refl
+-- every run means what its example says
+pub examples-hold : map (λ e. trace (length (e .meanings)) (e .packet) (e .from)) examples ≡ map (λ e. e .meanings) examples
+unfolding examples leAt le beAt be first partBytes types typeIn typeOf hasBit parsedOf replyHeader packetOf lengthWidth collationSize signed numberAt partAt must then isCode isType typeAt integerAt boundedAt isChunk isLast chunkAt chunksAt maxAt cellAt columnAt metadataAt rowAt doneAt textAt textsAt messageAt tokenAt held stands after rowCellAt nextAt isReply stepOf chunkBytes
+examples-hold = refl

@@ -1,4 +1,4 @@
--- What a step finds at each kind of token that may come next: the token, its meaning, and the position behind it. Assumes nothing.
+-- What a step finds at each kind of token that may come next: the token, its meaning, and the position after it. Assumes nothing.
 use mathlib.Core.Path.{_≡_, refl, sym, ap, _∙_}
 use mathlib.Core.Bool.{Bool, true, false, not, _||_}
 use mathlib.Core.List.{List, [], _∷_, _++_}
@@ -12,31 +12,34 @@ use Rattle.wire.specs.declared.Part.{Part}
 use Rattle.packet.specs.Status.{hasBit}
 use Rattle.token.specs.Types.{lengthWidth, collationSize}
 use Rattle.token.specs.Tokens as sent
-use Rattle.token.specs.Tokens.{Sent, integer, noInteger, bounded, long, noLong, put, putCell, unitCount, nameCount, messageLength, states, valueOf, signed}
+use Rattle.text.specs.Units.{units}
+use Rattle.text.proofs.Scan.{units-half}
+use Rattle.token.specs.Tokens.{EncodedCell, integer, noInteger, bounded, long, noLong, put, putCell, nameCount, messageLength, states, valueOf, signed}
 use Rattle.reader.specs.declared.Position.{Position}
-use Rattle.reader.specs.declared.Value.{Value}
-use Rattle.reader.specs.declared.Value.the-variants as value
+use Rattle.cells.specs.declared.Value.{Value}
+use Rattle.cells.specs.declared.Value.the-variants as value
 use Rattle.reader.specs.declared.Token.{Token}
 use Rattle.reader.specs.declared.Token.the-variants.{ColMetadata, Column, Row, Cell, Done, Message}
-use Rattle.reader.specs.Places.{Place, whole}
-use Rattle.reader.specs.Cells.{isType, typeAt, integerAt, boundedAt, maxAt, cellAt}
-use Rattle.reader.specs.Tokens.{columnAt, metadataAt, rowAt, doneAt, textAt, messageAt, tokenAt}
+use Rattle.payload.specs.Places.{Place, whole}
+use Rattle.cells.specs.Cells.{isType, typeAt, integerAt, boundedAt, maxAt, cellAt}
+use Rattle.reader.specs.ReadTokens.{columnAt, metadataAt, rowAt, doneAt, textAt, textsAt, messageAt, tokenAt}
 use Rattle.reader.specs.Positions.{after}
 use Rattle.reader.specs.Reader.{rowCellAt, nextAt}
-use Rattle.reader.specs.Meaning.{valueIn, meaning}
-use Rattle.reader.specs.WellFormed.{ColumnType, ColumnOk, CellOk, DoneOk, MessageOk, Phase, among, between, inRow}
-use Rattle.reader.proofs.Standing.{At, past-word, past-raw, part-is, number-at, part-at, must-at, cond-yes, cond-no, then-at}
-use Rattle.reader.proofs.Types.{either, code<, code-known, limit<, integer-length, max-code}
+use Rattle.cells.specs.Values.{valueMeaning}
+use Rattle.reader.specs.Meaning.{tokenMeaning}
+use Rattle.reader.proofs.WellFormed.{ColumnType, ColumnOk, CellOk, DoneOk, MessageOk, Phase, among, between, inRow}
+use Rattle.payload.proofs.Standing.{At, past-word, past-raw, part-is, number-at, part-at, must-at, cond-yes, cond-no, then-at}
+use Rattle.cells.proofs.Types.{either, code<, code-known, limit<, integer-length, max-code}
 use Rattle.reader.proofs.Held.{Holds, next-code, next-limit, next-good}
-use Rattle.reader.proofs.Behind.{behind-metadata, behind-column, behind-row, behind-cell, behind-done, behind-message}
-use Rattle.reader.proofs.Chunks.{past-chunks, past-is, after-chunks, max-at, max-bytes}
+use Rattle.reader.proofs.After.{after-metadata, after-column, after-row, after-cell, after-done, after-message}
+use Rattle.cells.proofs.Chunks.{past-chunks, past-is, after-chunks, max-at, max-bytes}
 
--- the token at a position is t, behind which the reader stands at the phase ph before the fields fs
-pub record Finds (p : List ℕ) (pos : Position) (t : sent.Token Sent) (over : Bool) (ph : Phase) (fs : List Field) : Type 0 where
+-- the token at a position is t, after which the reader stands at the phase ph before the fields fs
+pub record Finds (p : List ℕ) (pos : Position) (t : sent.Token EncodedCell) (over : Bool) (ph : Phase) (fs : List Field) : Type 0 where
   pub found : Token
   pub place : Place
   pub is : nextAt p pos ≡ whole found place
-  pub means : meaning p found ≡ states t
+  pub means : tokenMeaning p found ≡ states t
   pub holds : Holds p (after pos found place) over ph fs
 
 -- ---- tokens by their first byte
@@ -44,7 +47,7 @@ pub record Finds (p : List ℕ) (pos : Position) (t : sent.Token Sent) (over : B
 module _ {p : List ℕ} {pos : Position} {cs : List ColumnType} {fs : List Field} (h : Holds p pos false (between cs) fs) where
   first-byte : nextAt p pos ≡ tokenAt (pos .count) p (pos .place)
   unfolding nextAt
-  first-byte = cond-no _ _ (le-ltb 0 (pos .columns) (omega arith)) ∙ cond-no _ _ (le-ltb 0 (pos .cells) (omega arith))
+  first-byte = cond-no _ _ (le-ltb 0 (pos .«columns_left») (omega arith)) ∙ cond-no _ _ (le-ltb 0 (pos .«cells_left») (omega arith))
 
 module _ {p : List ℕ} {pos : Position} {cs : List ColumnType} {s : List Field} where
   pub finds-metadata : {n : ℕ} → n ≤ 128 → Holds p pos false (between cs) (put (sent.metadata n) s) → Finds p pos (sent.metadata n) false (among [] n) s
@@ -56,7 +59,7 @@ module _ {p : List ℕ} {pos : Position} {cs : List ColumnType} {s : List Field}
         place = pos .place + 1 + 2;
         is = first-byte h ∙ number-at _ (omega arith) (h .here) ∙ number-at _ (omega arith) a1 ∙ must-at _ _ (le-leb n 128 m);
         means = refl;
-        holds = behind-metadata (past-word a1) (omega arith) n m h;
+        holds = after-metadata (past-word a1) (omega arith) n m h;
       }
 
   pub finds-row : 0 < length cs → Holds p pos false (between cs) (put sent.row s) → Finds p pos sent.row false (inRow cs cs) s
@@ -66,7 +69,7 @@ module _ {p : List ℕ} {pos : Position} {cs : List ColumnType} {s : List Field}
     place = pos .place + 1;
     is = first-byte h ∙ number-at _ (omega arith) (h .here) ∙ must-at _ _ (lt-ltb 0 (pos .count) (omega arith));
     means = refl;
-    holds = behind-row (past-word (h .here)) (omega arith) h;
+    holds = after-row (past-word (h .here)) (omega arith) h;
   }
 
   pub finds-done : {st c n : ℕ} → DoneOk st c n → Holds p pos false (between cs) (put (sent.done st c n) s)
@@ -82,19 +85,19 @@ module _ {p : List ℕ} {pos : Position} {cs : List ColumnType} {s : List Field}
         is =
             first-byte h ∙ number-at _ (omega arith) (h .here) ∙ number-at _ (ok .status<) a1 ∙ number-at _ (ok .command<) a2 ∙ number-at _ (ok .count<) a3;
         means = refl;
-        holds = behind-done (past-word a3) (omega arith) st c n h;
+        holds = after-done (past-word a3) (omega arith) st c n h;
       }
 
 -- ---- messages
 
--- a text behind its count of units
+-- a text after its count of units
 module _ {p : List ℕ} {at : Place} {fs : List Field} where
-  text-at : (x : List ℕ) (k room most : ℕ) → At p at (word k (unitCount x) ∷ raw x ∷ fs)
-      → length x % 2 ≡ 0 → unitCount x < 256 ^ k → length x ≤ room → room ≤ length x + most
+  text-at : (x : List ℕ) (k room most : ℕ) → At p at (word k (units x) ∷ raw x ∷ fs)
+      → length x % 2 ≡ 0 → units x < 256 ^ k → length x ≤ room → room ≤ length x + most
       → textAt k room most p at ≡ whole (record { start = at + k; len = length x }) (at + k + length x)
   unfolding textAt
   text-at x k room most a e f l m =
-      let two : 2 * unitCount x ≡ length x = omega arith in
+      let two : 2 * units x ≡ length x = omega (arith, units-half x) in
       number-at _ f a ∙ must-at _ _ (rw (two, le-leb (length x) room l, le-leb (room - length x) most (omega arith)))
       ∙ rw two (part-at (length x) _ refl (past-word a))
 
@@ -115,7 +118,7 @@ module _ {p : List ℕ} {pos : Position} {cs : List ColumnType} {s : List Field}
 module _ {p : List ℕ} (short : length p < 65536) {pos : Position} {cs : List ColumnType} {s : List Field} where
   pub finds-message : {k n st cl l : ℕ} {t v r : List ℕ} → MessageOk k n st cl t v r l → Holds p pos false (between cs) (put (sent.message k n st cl t v r l) s)
       → Finds p pos (sent.message k n st cl t v r l) false (between cs) s
-  unfolding messageAt messageLength
+  unfolding messageAt textsAt messageLength
   finds-message {k} {n} {st} {cl} {l} {t} {v} {r} ok h =
       let z = messageLength t v r in
       let at = pos .place + 1 + 2 + 4 + 1 + 1 in
@@ -137,12 +140,12 @@ module _ {p : List ℕ} (short : length p < 65536) {pos : Position} {cs : List C
             message-byte k (ok .kind-is) h ∙ number-at _ (omega arith) a1
             ∙ must-at _ _ (rw (le-leb 14 z (omega arith), eq-eqb (z % 2) 0 (omega arith)))
             ∙ number-at _ (ok .number<) a2 ∙ number-at _ (ok .state<) a3 ∙ number-at _ (ok .class<) a4
-            ∙ then-at _ (text-at t 2 (z - 14) 1020 a5 (ok .text-even) (omega arith) (omega arith) (omega arith))
-            ∙ then-at _ (text-at v 1 (z - 14 - length t) 510 a6 (ok .server-even) (omega arith) (omega arith) (omega arith))
-            ∙ then-at _ (text-at r 1 (z - 14 - length t - length v) 0 a7 (ok .procedure-even) (omega arith) (omega arith) (omega arith))
-            ∙ number-at _ (ok .line<) a8;
+            ∙ then-at _ (then-at _ (text-at t 2 (z - 14) 1020 a5 (ok .text-even) (omega (arith, units-half t)) (omega arith) (omega arith))
+            ∙ then-at _ (text-at v 1 (z - 14 - length t) 510 a6 (ok .server-even) (omega (arith, units-half v)) (omega arith) (omega arith))
+            ∙ then-at _ (text-at r 1 (z - 14 - length t - length v) 0 a7 (ok .procedure-even) (omega (arith, units-half r)) (omega arith) (omega arith))
+            ∙ number-at _ (ok .line<) a8);
         means = rw (part-is (length t) refl (past-word a5), part-is (length v) refl (past-word a6), part-is (length r) refl (past-word a7));
-        holds = behind-message (past-word a8) (omega arith) k n st cl _ _ _ l h;
+        holds = after-message (past-word a8) (omega arith) k n st cl _ _ _ l h;
       }
 
 -- ---- columns
@@ -173,30 +176,30 @@ module _ {p : List ℕ} {pos : Position} {cs : List ColumnType} {k : ℕ} {s : L
         found = Column u f c l (record { start = at; len = collationSize c }) (record { start = at + collationSize c + 1; len = 2 * nameCount n });
         place = at + collationSize c + 1 + 2 * nameCount n;
         is =
-            cond-yes _ _ (lt-ltb 0 (pos .columns) (omega arith)) ∙ number-at _ (ok .user<) (h .here) ∙ number-at _ (ok .flags<) a1
+            cond-yes _ _ (lt-ltb 0 (pos .«columns_left») (omega arith)) ∙ number-at _ (ok .user<) (h .here) ∙ number-at _ (ok .flags<) a1
             ∙ then-at _ (type-at (ok .type-is) (ok .collation-is) a2) ∙ number-at _ (ok .name<) a5 ∙ part-at _ _ (sym (ok .name-is)) a6;
         means = rw (part-is _ (ok .collation-is) a4, part-is _ (sym (ok .name-is)) a6);
-        holds = behind-column (past-raw _ (sym (ok .name-is)) a6) (omega arith) u f c l _ _ k (ok .type-is) h;
+        holds = after-column (past-raw _ (sym (ok .name-is)) a6) (omega arith) u f c l _ _ k (ok .type-is) h;
       }
 
 -- ---- cells
 
--- a cell that is read at a place: its value, what that stands for, and the place behind it
-record Valued (p : List ℕ) (code limit at : ℕ) (v : Sent) (fs : List Field) : Type 0 where
+-- a cell that is read at a place: its value, what that stands for, and the place after it
+record Valued (p : List ℕ) (code limit at : ℕ) (v : EncodedCell) (fs : List Field) : Type 0 where
   value : Value
   place : Place
   onward : at ≤ place
   is : cellAt code limit p at ≡ whole value place
-  means : valueIn p value ≡ valueOf v
+  means : valueMeaning p value ≡ valueOf v
   here : At p place fs
 
 max-type : (p : List ℕ) (at : Place) (c : ColumnType) → isType (c .code) (c .limit) ≡ true → c .limit ≡ 0xFFFF
     → cellAt (c .code) (c .limit) p at ≡ maxAt (eqb (c .code) 0xE7) p at
 unfolding cellAt
-max-type p at c e l = cond-no _ _ (max-code (c .code) (c .limit) e l) ∙ cond-yes _ _ (eq-eqb (c .limit) 0xFFFF l)
+max-type p at c e l = must-at _ _ e ∙ cond-no _ _ (max-code (c .code) (c .limit) e l) ∙ cond-yes _ _ (eq-eqb (c .limit) 0xFFFF l)
 
 module _ {p : List ℕ} (short : length p < 65536) {at : Place} {fs : List Field} (c : ColumnType) (e : isType (c .code) (c .limit) ≡ true) where
-  valued : (v : Sent) → CellOk c v → At p at (putCell v fs) → Valued p (c .code) (c .limit) at v fs
+  valued : (v : EncodedCell) → CellOk c v → At p at (putCell v fs) → Valued p (c .code) (c .limit) at v fs
   unfolding cellAt integerAt boundedAt maxAt
   valued (integer w n) ok a =
       let l = integer-length (c .code) (c .limit) e (ok .0) in
@@ -206,7 +209,7 @@ module _ {p : List ℕ} (short : length p < 65536) {at : Place} {fs : List Field
         place = at + 1 + w;
         onward = omega arith;
         is =
-            cond-yes _ _ (eq-eqb (c .code) 0x26 (ok .0)) ∙ number-at _ (omega arith) a ∙ cond-no _ _ (ne-eqb w 0 (omega arith))
+            must-at _ _ e ∙ cond-yes _ _ (eq-eqb (c .code) 0x26 (ok .0)) ∙ number-at _ (omega arith) a ∙ cond-no _ _ (ne-eqb w 0 (omega arith))
             ∙ must-at _ _ (eq-eqb w (c .limit) (sym (ok .1))) ∙ number-at _ (ok .2) a1;
         means = refl;
         here = past-word a1;
@@ -215,7 +218,7 @@ module _ {p : List ℕ} (short : length p < 65536) {at : Place} {fs : List Field
     value = value.Null;
     place = at + 1;
     onward = omega arith;
-    is = cond-yes _ _ (eq-eqb (c .code) 0x26 ok) ∙ number-at _ (omega arith) a;
+    is = must-at _ _ e ∙ cond-yes _ _ (eq-eqb (c .code) 0x26 ok) ∙ number-at _ (omega arith) a;
     means = refl;
     here = past-word a;
   }
@@ -226,7 +229,7 @@ module _ {p : List ℕ} (short : length p < 65536) {at : Place} {fs : List Field
         place = at + 2 + length x;
         onward = omega arith;
         is =
-            cond-no _ _ (ne-eqb (c .code) 0x26 (omega arith)) ∙ cond-no _ _ (ne-eqb (c .limit) 0xFFFF (omega arith))
+            must-at _ _ e ∙ cond-no _ _ (ne-eqb (c .code) 0x26 (omega arith)) ∙ cond-no _ _ (ne-eqb (c .limit) 0xFFFF (omega arith))
             ∙ number-at _ (omega arith) a ∙ cond-no _ _ (ne-eqb (length x) 0xFFFF (omega arith))
             ∙ must-at _ _ (rw (ok .3, le-leb (length x) (c .limit) (ok .2))) ∙ part-at _ _ refl a1;
         means = rw (part-is (length x) refl a1);
@@ -250,7 +253,7 @@ module _ {p : List ℕ} (short : length p < 65536) {at : Place} {fs : List Field
   }
 
 module _ {p : List ℕ} (short : length p < 65536) {pos : Position} {cs cells : List ColumnType} {c : ColumnType} {s : List Field} where
-  pub finds-cell : (v : Sent) → CellOk c v → Holds p pos false (inRow cs (c ∷ cells)) (put (sent.cell v) s)
+  pub finds-cell : (v : EncodedCell) → CellOk c v → Holds p pos false (inRow cs (c ∷ cells)) (put (sent.cell v) s)
       → Finds p pos (sent.cell v) false (inRow cs cells) s
   unfolding nextAt rowCellAt
   finds-cell v ok h =
@@ -259,8 +262,8 @@ module _ {p : List ℕ} (short : length p < 65536) {pos : Position} {cs cells : 
         found = Cell (w .value);
         place = w .place;
         is =
-            cond-no _ _ (le-ltb 0 (pos .columns) (omega arith)) ∙ cond-yes _ _ (lt-ltb 0 (pos .cells) (omega arith))
+            cond-no _ _ (le-ltb 0 (pos .«columns_left») (omega arith)) ∙ cond-yes _ _ (lt-ltb 0 (pos .«cells_left») (omega arith))
             ∙ rw (next-code h, next-limit h) (then-at _ (w .is));
         means = ap sent.cell (w .means);
-        holds = behind-cell (w .here) (w .onward) (w .value) c cells h;
+        holds = after-cell (w .here) (w .onward) (w .value) c cells h;
       }

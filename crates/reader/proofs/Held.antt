@@ -10,10 +10,10 @@ use lib.ListN.{length, take, getD, set, length-append}
 use lib.Seq.{getD-append-seam}
 use Rattle.wire.specs.Fields.{Field}
 use Rattle.reader.specs.declared.Position.{Position}
-use Rattle.reader.specs.Cells.{isType}
+use Rattle.cells.specs.Cells.{isType}
 use Rattle.reader.specs.Positions.{held, stands}
-use Rattle.reader.specs.WellFormed.{ColumnType, Phase}
-use Rattle.reader.proofs.Standing.{At}
+use Rattle.reader.proofs.WellFormed.{ColumnType, Phase}
+use Rattle.payload.proofs.Standing.{At}
 
 -- ---- a list whose first entries are those of some columns
 
@@ -65,8 +65,8 @@ pub record Holds (p : List ℕ) (pos : Position) (over : Bool) (ph : Phase) (fs 
   pub types-are : take (length (ph .columns)) (pos .types) ≡ map (λ c. c .code) (ph .columns)
   pub limits-are : take (length (ph .columns)) (pos .limits) ≡ map (λ c. c .limit) (ph .columns)
   pub good : Good (ph .columns)
-  pub columns-are : pos .columns ≡ ph .coming
-  pub cells-are : pos .cells ≡ length (ph .cells)
+  pub columns-are : pos .«columns_left» ≡ ph .coming
+  pub cells-are : pos .«cells_left» ≡ length (ph .cells)
   -- the columns whose cells were read, before those whose cells are to come
   pub read : List ColumnType
   pub read-is : ph .columns ≡ read ++ ph .cells
@@ -93,32 +93,32 @@ module _ {p : List ℕ} {pos : Position} {over : Bool} {ph : Phase} {fs : List F
   pub stands-ok : stands p pos ≡ true
   unfolding stands
   stands-ok =
-      let n : pos .count - pos .columns ≡ length (ph .columns) = omega arith in
+      let n : pos .count - pos .«columns_left» ≡ length (ph .columns) = omega arith in
       rw (
         n,
         le-leb 8 (pos .place) (h .body),
         le-leb (pos .place) (length p) (h .here .inside),
         le-leb (pos .count) 128 (h .count≤),
-        le-leb (pos .columns) (pos .count) (omega arith),
-        le-leb (pos .cells) (pos .count) (omega (arith, cells≤)),
+        le-leb (pos .«columns_left») (pos .count) (omega arith),
+        le-leb (pos .«cells_left») (pos .count) (omega (arith, cells≤)),
       )
       (held-ok (length (ph .columns)) (omega arith))
 
 -- the column whose cell is next, as the position has it
 module _ {p : List ℕ} {pos : Position} {over : Bool} {cs cells : List ColumnType} {c : ColumnType} {fs : List Field}
     (h : Holds p pos over (record { columns = cs; coming = 0; cells = c ∷ cells }) fs) where
-  pub next-index : pos .count - pos .cells ≡ length (h .read)
+  pub next-index : pos .count - pos .«cells_left» ≡ length (h .read)
   next-index = omega (arith, cells≤ h)
 
   next-column : getD cs (length (h .read)) c ≡ c
   next-column = rw (h .read-is) (getD-append-seam (h .read) c cells c)
 
-  pub next-code : getD (pos .types) (pos .count - pos .cells) 0 ≡ c .code
+  pub next-code : getD (pos .types) (pos .count - pos .«cells_left») 0 ≡ c .code
   next-code =
       rw next-index
       (entry-at (λ c. c .code) (pos .types) cs c (length (h .read)) (omega (arith, cells≤ h)) (h .types-are) ∙ ap (λ (d : ColumnType). d .code) next-column)
 
-  pub next-limit : getD (pos .limits) (pos .count - pos .cells) 0 ≡ c .limit
+  pub next-limit : getD (pos .limits) (pos .count - pos .«cells_left») 0 ≡ c .limit
   next-limit =
       rw next-index
       (entry-at (λ c. c .limit) (pos .limits) cs c (length (h .read)) (omega (arith, cells≤ h)) (h .limits-are) ∙ ap (λ (d : ColumnType). d .limit) next-column)

@@ -7,13 +7,13 @@ use native.Mathlib.Omega.{arith}
 use borrow.Author.Tests.{eqb-true}
 use lib.Dec.{eqb}
 use lib.ListN.{length}
-use Rattle.text.specs.Units.{unitsOf, total}
+use Rattle.text.specs.Units.{unitsOf, units, total}
 use Rattle.text.specs.Surrogates.{surrogateOf, surrogates, isHigh, isLow, paired, anyHigh, wellFormed, hasPair, charactersIn, characters}
 use Rattle.text.specs.declared.Surrogate.{Surrogate}
 use Rattle.text.specs.declared.Surrogate.the-variants.{Plain, High, Low}
-use Rattle.text.proofs.Scan.{length-units}
-use Rattle.token.specs.Tokens.{nameCount, unitCount}
-use Rattle.reader.proofs.Types.{both}
+use Rattle.text.proofs.Scan.{units-half}
+use Rattle.token.specs.Tokens.{nameCount}
+use Rattle.cells.proofs.Types.{both}
 
 -- a unit that is no surrogate
 plain : (high low : Bool) (ks : List Surrogate) → paired (cond high High (cond low Low Plain) ∷ ks) ≡ true → anyHigh (cond high High (cond low Low Plain) ∷ ks) ≡ false
@@ -31,11 +31,11 @@ each-one (u ∷ us) e f =
     rw (w .0, each-one us (w .1) (w .2)) (omega arith)
 
 module _ (name : List ℕ) (text : wellFormed name ≡ true) (plain : hasPair name ≡ false) where
-  pub name-units : nameCount name ≡ unitCount name
-  unfolding nameCount characters wellFormed hasPair surrogates
-  name-units = each-one (unitsOf name) (both (eqb (length name % 2) 0) _ text .1) plain ∙ length-units name
+  pub name-units : nameCount name ≡ units name
+  unfolding units nameCount characters wellFormed hasPair surrogates
+  name-units = each-one (unitsOf name) (both (eqb (length name % 2) 0) _ text .1) plain
 
   -- what a column asks of its name
   pub name-whole : 2 * nameCount name ≡ length name
   unfolding wellFormed
-  name-whole = omega (arith, name-units, eqb-true (length name % 2) 0 (both _ (paired (surrogates name)) text .0))
+  name-whole = omega (arith, name-units, units-half name, eqb-true (length name % 2) 0 (both _ (paired (surrogates name)) text .0))

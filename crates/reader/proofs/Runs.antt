@@ -17,28 +17,28 @@ use Rattle.packet.specs.Header.{newHeader, parsedOf}
 use Rattle.packet.specs.Reply.{replyHeader, packetOf}
 use Rattle.packet.proofs.Back.{reply-back}
 use Rattle.packet.proofs.Sizes.{length-packet, length-reply-header}
-use Rattle.token.specs.Tokens.{Token, Sent, put, bytesOf, joined, states}
+use Rattle.token.specs.Tokens.{Token, EncodedCell, put, tokenBytes, joined, states}
 use Rattle.token.proofs.Puts.{bytes-before}
 use Rattle.reader.specs.declared.Answer.the-variants as answer
 use Rattle.reader.specs.declared.Position.{Position}
 use Rattle.reader.specs.declared.Step.{Step}
 use Rattle.reader.specs.Positions.{freshPosition, stands, after}
 use Rattle.reader.specs.Reader.{settled, nextAt, endAt, isReply, stepOf, runOf, answerOf}
-use Rattle.reader.specs.Meaning.{tell, told, kth}
-use Rattle.reader.specs.WellFormed.{Phase, between, WF, wf-metadata, wf-column, wf-row, wf-cell, wf-message, wf-done, wf-last, tokensPacket}
+use Rattle.reader.specs.Meaning.{token, meaningOf, kth}
+use Rattle.reader.proofs.WellFormed.{Phase, between, WF, wf-metadata, wf-column, wf-row, wf-cell, wf-message, wf-done, wf-last, tokensPacket}
 use Rattle.reader.proofs.Held.{Holds, stands-ok}
 use Rattle.reader.proofs.Found.{Finds, finds-metadata, finds-column, finds-row, finds-cell, finds-done, finds-message}
 
 -- the fields of tokens, one after another
-abbrev pub putAll : List (Token Sent) → List Field
+abbrev pub putAll : List (Token EncodedCell) → List Field
 putAll [] = []
 putAll (t ∷ ts) = put t (putAll ts)
 
 -- are their bytes
-pub payload-fields : (ts : List (Token Sent)) → joined (map bytesOf ts) ≡ flat (putAll ts)
+pub payload-fields : (ts : List (Token EncodedCell)) → joined (map tokenBytes ts) ≡ flat (putAll ts)
 unfolding flat
 payload-fields [] = refl
-payload-fields (t ∷ ts) = ap (λ (l : List ℕ). bytesOf t ++ l) (payload-fields ts) ∙ sym (bytes-before t (putAll ts))
+payload-fields (t ∷ ts) = ap (λ (l : List ℕ). tokenBytes t ++ l) (payload-fields ts) ∙ sym (bytes-before t (putAll ts))
 
 -- ---- the answers of a run
 
@@ -79,20 +79,20 @@ module _ {p : List ℕ} (g : Headed p) where
     stays h zero = answer-first p pos (ends h)
     stays h (suc n) = answer-next p pos (ends h) n ∙ stays h n
 
-    -- a token, and what the run tells from behind it
-    goes-on : {fs gs : List Field} {t : Token Sent} {over : Bool} {next : Phase} (ts : List (Token Sent)) → Holds p pos false ph fs
-        → (f : Finds p pos t over next gs) → ((n : ℕ) → tell p (answerOf n p (after pos (f .found) (f .place))) ≡ kth (map states ts) n)
-        → (n : ℕ) → tell p (answerOf n p pos) ≡ kth (map states (t ∷ ts)) n
+    -- a token, and what the run means from after it
+    goes-on : {fs gs : List Field} {t : Token EncodedCell} {over : Bool} {next : Phase} (ts : List (Token EncodedCell)) → Holds p pos false ph fs
+        → (f : Finds p pos t over next gs) → ((n : ℕ) → meaningOf p (answerOf n p (after pos (f .found) (f .place))) ≡ kth (map states ts) n)
+        → (n : ℕ) → meaningOf p (answerOf n p pos) ≡ kth (map states (t ∷ ts)) n
     goes-on {t = t} ts h f rest n = from (going pos (stands-ok h) (h .over-is) ∙ ap (settled pos) (f .is)) n
       where
         from : stepOf p pos ≡ record { answer = answer.Token (f .found); next = after pos (f .found) (f .place) } → (n : ℕ)
-            → tell p (answerOf n p pos) ≡ kth (map states (t ∷ ts)) n
-        from e zero = ap (tell p) (answer-first p pos e) ∙ ap told (f .means)
-        from e (suc n) = ap (tell p) (answer-next p pos e n) ∙ rest n
+            → meaningOf p (answerOf n p pos) ≡ kth (map states (t ∷ ts)) n
+        from e zero = ap (meaningOf p) (answer-first p pos e) ∙ ap token (f .means)
+        from e (suc n) = ap (meaningOf p) (answer-next p pos e n) ∙ rest n
 
   -- from any position
-  pub run-from : {pos : Position} {ph : Phase} {ts : List (Token Sent)} → WF ph ts → Holds p pos false ph (putAll ts)
-      → (n : ℕ) → tell p (answerOf n p pos) ≡ kth (map states ts) n
+  pub run-from : {pos : Position} {ph : Phase} {ts : List (Token EncodedCell)} → WF ph ts → Holds p pos false ph (putAll ts)
+      → (n : ℕ) → meaningOf p (answerOf n p pos) ≡ kth (map states ts) n
   run-from (wf-metadata {ts = ts} l w) h n = let f = finds-metadata l h in goes-on ts h f (λ k. run-from w (f .holds) k) n
   run-from (wf-column {ts = ts} ok w) h n = let f = finds-column ok h in goes-on ts h f (λ k. run-from w (f .holds) k) n
   run-from (wf-row {ts = ts} l w) h n = let f = finds-row l h in goes-on ts h f (λ k. run-from w (f .holds) k) n
@@ -103,15 +103,15 @@ module _ {p : List ℕ} (g : Headed p) where
       goes-on ts h f (λ k. run-from w (rw m at (f .holds)) k) n
   run-from (wf-last ok m) h n =
       let f = finds-done ok h in
-      goes-on [] h f (λ k. ap (tell p) (stays (rw m at (f .holds)) k)) n
+      goes-on [] h f (λ k. ap (meaningOf p) (stays (rw m at (f .holds)) k)) n
 
 -- ---- the packet of some tokens
 
-module _ (ts : List (Token Sent)) where
+module _ (ts : List (Token EncodedCell)) where
   pub headed : length (tokensPacket ts) < 65536 → Headed (tokensPacket ts)
   unfolding tokensPacket isReply hasBit
   headed l =
-      let payload : List ℕ = joined (map bytesOf ts) in
+      let payload : List ℕ = joined (map tokenBytes ts) in
       let n : length (packetOf payload) ≡ 8 + length payload = length-packet payload in
       record {
         header = newHeader TabularResult (8 + length payload) 1;
@@ -124,7 +124,7 @@ module _ (ts : List (Token Sent)) where
   pub starts : Holds (tokensPacket ts) freshPosition false (between []) (putAll ts)
   unfolding tokensPacket packetOf
   starts =
-      let payload : List ℕ = joined (map bytesOf ts) in
+      let payload : List ℕ = joined (map tokenBytes ts) in
       let n : length (packetOf payload) ≡ 8 + length payload = length-packet payload in
       record {
         here = record {

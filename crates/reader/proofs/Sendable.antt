@@ -11,12 +11,14 @@ use lib.ListN.{length}
 use Rattle.text.specs.Surrogates.{surrogates, paired, wellFormed, hasPair}
 use Rattle.token.specs.declared.SqlDataType.{SqlDataType}
 use Rattle.token.specs.declared.SqlDataType.the-variants.{TinyInt, SmallInt, Int, BigInt, NVarChar, NVarCharMax, VarCharMax, VarBinaryMax}
+use Rattle.text.specs.Units.{units}
+use Rattle.text.proofs.Scan.{units-half}
 use Rattle.token.specs.Types.{typeCode, typeLength, collationSize}
 use Rattle.packet.specs.Status.{hasBit}
-use Rattle.token.specs.Tokens.{Token, metadata, column, row, cell, done, message, Sent, unitCount}
-use Rattle.reader.specs.Cells.{isType}
-use Rattle.reader.specs.WellFormed.{ColumnType, ColumnOk, CellOk, DoneOk, MessageOk, among, between, inRow, WF, wf-metadata, wf-column, wf-row, wf-cell, wf-message, wf-done, wf-last}
-use Rattle.reader.proofs.Types.{both}
+use Rattle.token.specs.Tokens.{Token, metadata, column, row, cell, done, message, EncodedCell}
+use Rattle.cells.specs.Cells.{isType}
+use Rattle.reader.proofs.WellFormed.{ColumnType, ColumnOk, CellOk, DoneOk, MessageOk, among, between, inRow, WF, wf-metadata, wf-column, wf-row, wf-cell, wf-message, wf-done, wf-last}
+use Rattle.cells.proofs.Types.{both}
 use Rattle.reader.proofs.Names.{name-units, name-whole}
 
 -- the types that the Rust writes are types that the reader knows
@@ -36,7 +38,7 @@ unfolding wellFormed
 even-text t e = eqb-true (length t % 2) 0 (both (eqb (length t % 2) 0) (paired (surrogates t)) e .0)
 
 pub column-ok : {u f c l : ℕ} {o n : List ℕ} → u < 256 ^ 4 → f < 256 ^ 2 → isType c l ≡ true → length o ≡ collationSize c
-    → wellFormed n ≡ true → hasPair n ≡ false → unitCount n ≤ 255 → ColumnOk u f c l o n
+    → wellFormed n ≡ true → hasPair n ≡ false → units n ≤ 255 → ColumnOk u f c l o n
 column-ok {n = n} u f t o w h m = record {
   user< = u;
   flags< = f;
@@ -50,7 +52,7 @@ pub done-ok : {s c n : ℕ} → s < 256 ^ 2 → c < 256 ^ 2 → n < 256 ^ 8 → 
 done-ok s c n = record { status< = s; command< = c; count< = n }
 
 pub message-ok : {k n s c l : ℕ} {t v p : List ℕ} → (eqb k 0xAA || eqb k 0xAB) ≡ true → n < 256 ^ 4 → s < 256 → c < 256 → l < 256 ^ 4
-    → wellFormed t ≡ true → wellFormed v ≡ true → unitCount v ≤ 255 → wellFormed p ≡ true → unitCount p ≤ 255 → MessageOk k n s c t v p l
+    → wellFormed t ≡ true → wellFormed v ≡ true → units v ≤ 255 → wellFormed p ≡ true → units p ≤ 255 → MessageOk k n s c t v p l
 message-ok {t = t} {v = v} {p = p} k n s c l t-is v-is v≤ p-is p≤ =
     let v-even = even-text v v-is in
     let p-even = even-text p p-is in
@@ -62,14 +64,14 @@ message-ok {t = t} {v = v} {p = p} k n s c l t-is v-is v≤ p-is p≤ =
       line< = l;
       text-even = even-text t t-is;
       server-even = v-even;
-      server≤ = omega arith;
+      server≤ = omega (arith, units-half v);
       procedure-even = p-even;
-      procedure≤ = omega arith;
+      procedure≤ = omega (arith, units-half p);
     }
 
 -- ---- each token before well-formed ones. These are the constructors, as functions: where they stand, what they ask is known
 
-module _ {cs : List ColumnType} {ts : List (Token Sent)} where
+module _ {cs : List ColumnType} {ts : List (Token EncodedCell)} where
   pub metadata-then : {n : ℕ} → n ≤ 128 → WF (among [] n) ts → WF (between cs) (metadata n ∷ ts)
   metadata-then l w = wf-metadata l w
 
@@ -80,7 +82,7 @@ module _ {cs : List ColumnType} {ts : List (Token Sent)} where
   pub row-then : 0 < length cs → WF (inRow cs cs) ts → WF (between cs) (row ∷ ts)
   row-then l w = wf-row l w
 
-  pub cell-then : {cells : List ColumnType} {c : ColumnType} {v : Sent} → CellOk c v → WF (inRow cs cells) ts → WF (inRow cs (c ∷ cells)) (cell v ∷ ts)
+  pub cell-then : {cells : List ColumnType} {c : ColumnType} {v : EncodedCell} → CellOk c v → WF (inRow cs cells) ts → WF (inRow cs (c ∷ cells)) (cell v ∷ ts)
   cell-then ok w = wf-cell ok w
 
   pub message-then : {k n s c l : ℕ} {t v p : List ℕ} → MessageOk k n s c t v p l → WF (between cs) ts → WF (between cs) (message k n s c t v p l ∷ ts)

@@ -1,8 +1,6 @@
-pub mod Places
-pub mod Cells
-pub mod Tokens
+pub mod ReadTokens
 pub mod Positions
 pub mod Reader
 pub mod Meaning
-pub mod WellFormed
 pub mod Code
+pub mod Spots

@@ -1,51 +1,37 @@
 // The reply reader (document 01, 'The reply reader'): a position by value, and a step that hands back a token, the end or a
 // refusal with the next position.
-mod cell_reader;
-mod field_reader;
 mod token_reader;
 
-use cell_reader::CellRead;
+use cells::CellRead;
+use cells::Value;
 use packet::PacketHeader;
 use packet::PacketStatus;
 use packet::PacketType;
 use packet::Parsed;
+use payload::minus;
+use refusals::CUT;
+use refusals::INNER_WRONG;
+use refusals::NOT_A_REPLY;
 use token_reader::TokenRead;
 use wire::Part;
 ghost use mathlib.Core.Path.{_≡_};
-ghost use mathlib.Core.Bool.{true};
-ghost use Prim.Native.Nat.{_-_, _<_};
+ghost use mathlib.Core.Bool.{true, cond};
+ghost use Prim.Native.Nat.{_≤_};
+ghost use Rattle.refusals.specs.Numbers.{innerWrong};
 ghost use Rattle.packet.specs.Status.{hasBit};
-ghost use Rattle.reader.specs.Positions.{freshPosition, stands, after};
-ghost use Rattle.reader.specs.Reader.{refusedAt, rowCellAt, nextAt, endAt, isReply, stepOf};
+ghost use Rattle.reader.specs.declared.Got.the-variants as got;
+ghost use Rattle.payload.specs.Places.{atEnd};
+ghost use Rattle.cells.specs.Cells.{cellAt};
+ghost use Rattle.reader.specs.Positions.{freshPosition, held, stands};
+ghost use Rattle.reader.specs.Reader.{nextAt, isReply, stepOf};
 ghost use Rattle.reader.specs.Code.{tokenRead};
+ghost use Rattle.reader.specs.Spots.{holding, spotAfter, stepBy, cellToken};
 
 // The most columns that a position holds.
 pub const MAX_COLUMNS: usize = 128;
 
-// Refusals of a reply, caused by its sender; 8 and 9 are those of the packet header.
-// A packet that is not of type 04, not ended, or of another length than its header says.
-pub const NOT_A_REPLY: u8 = 23;
-// The packet ends within a token or before the last DONE; or a position that cannot be.
-pub const CUT: u8 = 24;
-// A byte that begins no token.
-pub const UNKNOWN_TOKEN: u8 = 25;
-// An inner length or a type that is wrong, or bytes after the last DONE.
-pub const WRONG: u8 = 26;
-// Over 128 columns.
-pub const TOO_MANY_COLUMNS: u8 = 27;
-// A row of a set without columns.
-pub const ROW_WITHOUT_COLUMNS: u8 = 28;
-
 // The status bit of a DONE that a set follows.
 const MORE: u16 = 0x0001;
-
-// A cell's value, by case. A Max part runs from the first chunk length through the zero one.
-pub enum Value {
-    Number(i64),
-    Part(Part),
-    Max(Part),
-    Null,
-}
 
 // A token of a reply; each column after COLMETADATA and each cell after ROW is one of its own. ERROR and INFO are messages
 // by their code.
@@ -78,13 +64,6 @@ pub enum Token {
     },
 }
 
-// A column's type: its code, its length or most bytes, and its collation, which is empty where the type has none.
-pub struct TypeInfo {
-    pub code: u8,
-    pub limit: u16,
-    pub collation: Part,
-}
-
 // Where a reader stands: the place of the next byte; how many columns the current set has, with the type and the length
 // of each that was read; how many columns and how many cells are still to be read; whether the last DONE was read.
 pub struct Position {
@@ -92,8 +71,8 @@ pub struct Position {
     pub count: usize,
     pub types: [u8; 128],
     pub limits: [u16; 128],
-    pub columns: usize,
-    pub cells: usize,
+    pub columns_left: usize,
+    pub cells_left: usize,
     pub over: bool,
 }
 
@@ -118,163 +97,199 @@ impl Position {
             count: 0,
             types: [0; 128],
             limits: [0; 128],
-            columns: 0,
-            cells: 0,
+            columns_left: 0,
+            cells_left: 0,
             over: false,
         }
     }
 
     // The next token, the end, or a refusal. A refusal and the end hand back the same position.
+    // The types are copied once, to locals, and lent from there: a position that is handed on by value is copied each time.
     pub fn step(self, packet: &[u8]) -> Step
         ensures { λ r. ⌜ r ≡ stepOf (now (packet .entry)) self ⌝ }
     {
-        match PacketHeader::parse(packet) {
-            Parsed::Refused(n) => self.refused(n),
-            Parsed::Header(header) => {
-                if !is_reply(header, packet.len()) {
-                    return self.refused(NOT_A_REPLY);
+        let at = Spot {
+            place: self.place,
+            count: self.count,
+            columns_left: self.columns_left,
+            cells_left: self.cells_left,
+            over: self.over,
+        };
+        let mut types = self.types;
+        let mut limits = self.limits;
+        match got_at(packet, at, &types, &limits) {
+            Got::Refused(n) => Step {
+                answer: Answer::Refused(n),
+                next: self,
+            },
+            Got::End => Step {
+                answer: Answer::End,
+                next: self,
+            },
+            Got::Token(token, place) => {
+                let next = spot_after(at, token, place);
+                if let Token::Column { code, limit, .. } = token {
+                    let i = minus(at.count, at.columns_left);
+                    if i < MAX_COLUMNS {
+                        types[i] = code;
+                        limits[i] = limit;
+                    }
                 }
-                if !self.stands(packet) {
-                    return self.refused(CUT);
-                }
-                if self.over {
-                    return self.end(packet);
-                }
-                match self.next_at(packet) {
-                    TokenRead::Refused(n) => self.refused(n),
-                    TokenRead::Whole(token, next) => Step {
-                        answer: Answer::Token(token),
-                        next: self.after(token, next),
+                Step {
+                    answer: Answer::Token(token),
+                    next: Position {
+                        place: next.place,
+                        count: next.count,
+                        types,
+                        limits,
+                        columns_left: next.columns_left,
+                        cells_left: next.cells_left,
+                        over: next.over,
                     },
                 }
             },
         }
     }
+}
 
-    fn refused(self, n: u8) -> Step
-        ensures { λ r. ⌜ r ≡ refusedAt self n ⌝ }
-    {
-        Step {
-            answer: Answer::Refused(n),
-            next: self,
-        }
-    }
+// A position without the types that it holds.
+struct Spot {
+    place: usize,
+    count: usize,
+    columns_left: usize,
+    cells_left: usize,
+    over: bool,
+}
 
-    // Behind the last DONE, where the packet must end.
-    fn end(self, packet: &[u8]) -> Step
-        ensures { λ r. ⌜ r ≡ endAt (now (packet .entry)) self ⌝ }
-    {
-        if self.place != packet.len() {
-            return self.refused(WRONG);
-        }
-        Step {
-            answer: Answer::End,
-            next: self,
-        }
-    }
+// What a step comes to: a token with the place after it, the end, or a refusal.
+enum Got {
+    Token(Token, usize),
+    End,
+    Refused(u8),
+}
 
-    // Whether a position can be: in the packet, with at most 128 columns, whose types are column types as far as they were
-    // read, and not past its columns or cells.
-    fn stands(self, packet: &[u8]) -> bool
-        ensures { λ r. ⌜ r ≡ stands (now (packet .entry)) self ⌝ }
-    {
-        if self.place < packet::PACKET_HEADER_SIZE {
-            return false;
-        }
-        if packet.len() < self.place {
-            return false;
-        }
-        if MAX_COLUMNS < self.count {
-            return false;
-        }
-        if self.count < self.columns {
-            return false;
-        }
-        if self.count < self.cells {
-            return false;
-        }
-        cell_reader::are_types(&self.types, &self.limits, self.count - self.columns)
+fn got_at<'a>(packet: &[u8], at: Spot, types: &'a [u8; 128], limits: &'a [u16; 128]) -> Got
+    ensures { λ r. ⌜ stepBy (holding at (now (types .entry)) (now (limits .entry))) r ≡ stepOf (now (packet .entry)) (holding at (now (types .entry)) (now (limits .entry))) ⌝ }
+{
+    match PacketHeader::parse(packet) {
+        Parsed::Refused(n) => Got::Refused(n),
+        Parsed::Header(header) => {
+            if !is_reply(header, packet.len()) {
+                return Got::Refused(NOT_A_REPLY);
+            }
+            if !stands(packet, at, types, limits) {
+                return Got::Refused(CUT);
+            }
+            if at.over {
+                return end_at(packet, at.place);
+            }
+            match next_at(packet, at, types, limits) {
+                TokenRead::Refused(n) => Got::Refused(n),
+                TokenRead::Whole(token, next) => Got::Token(token, next),
+            }
+        },
     }
+}
 
-    // The token at a position: a column or a cell that is to be read, else one by its first byte.
-    fn next_at(self, packet: &[u8]) -> TokenRead
-        requires { ⌜ stands (now packet) self ≡ true ⌝ }
-        ensures { λ r. ⌜ r ≡ tokenRead (nextAt (now (packet .entry)) self) ⌝ }
-    {
-        if 0 < self.columns {
-            return token_reader::column_at(packet, self.place);
-        }
-        if 0 < self.cells {
-            return self.row_cell_at(packet);
-        }
-        token_reader::token_at(packet, self.place, self.count)
+// After the last DONE, where the packet must end.
+fn end_at(packet: &[u8], place: usize) -> Got
+    ensures { λ r. ⌜ r ≡ cond (atEnd (now (packet .entry)) place) got.End (got.Refused innerWrong) ⌝ }
+{
+    if place != packet.len() {
+        return Got::Refused(INNER_WRONG);
     }
+    Got::End
+}
 
-    // The next cell of the current row, of its column's type.
-    fn row_cell_at(self, packet: &[u8]) -> TokenRead
-        requires { ⌜ (stands (now packet) self ≡ true) × (self .columns ≡ 0) × (0 < self .cells) ⌝ }
-        ensures { λ r. ⌜ r ≡ tokenRead (rowCellAt (now (packet .entry)) self) ⌝ }
-    {
-        let i = self.count - self.cells;
-        match cell_reader::cell_at(packet, self.place, self.types[i], self.limits[i]) {
-            CellRead::Refused(n) => TokenRead::Refused(n),
-            CellRead::Whole(value, next) => TokenRead::Whole(Token::Cell(value), next),
-        }
+// Whether a step can go on from a position. It cannot, and answers 24, where the place is in the header or past the end,
+// where over 128 columns or a type that is none are held, and where it stands past its columns or cells.
+fn stands<'a>(packet: &[u8], at: Spot, types: &'a [u8; 128], limits: &'a [u16; 128]) -> bool
+    ensures { λ r. ⌜ r ≡ stands (now (packet .entry)) (holding at (now (types .entry)) (now (limits .entry))) ⌝ }
+{
+    if at.place < packet::PACKET_HEADER_SIZE {
+        return false;
     }
+    if packet.len() < at.place {
+        return false;
+    }
+    if MAX_COLUMNS < at.count {
+        return false;
+    }
+    if at.count < at.columns_left {
+        return false;
+    }
+    if at.count < at.cells_left {
+        return false;
+    }
+    are_types(types, limits, at.count - at.columns_left)
+}
 
-    // The position behind a token: COLMETADATA begins a set and any DONE ends it, the last one ends the reply.
-    fn after(self, token: Token, place: usize) -> Position
-        ensures { λ r. ⌜ r ≡ after self token place ⌝ }
-    {
-        let mut next = self;
-        next.place = place;
-        match token {
-            Token::ColMetadata(n) => {
-                next.count = n as usize;
-                next.columns = n as usize;
-            },
-            Token::Column {
-                user_type: _,
-                flags: _,
-                code,
-                limit,
-                collation: _,
-                name: _,
-            } => {
-                let i = minus(self.count, self.columns);
-                next.columns = minus(self.columns, 1);
-                if i < MAX_COLUMNS {
-                    next.types[i] = code;
-                    next.limits[i] = limit;
-                }
-            },
-            Token::Row => {
-                next.cells = self.count;
-            },
-            Token::Cell(_) => {
-                next.cells = minus(self.cells, 1);
-            },
-            Token::Done {
-                status,
-                command: _,
-                count: _,
-            } => {
-                next.count = 0;
-                next.over = !has_more(status);
-            },
-            Token::Message {
-                kind: _,
-                number: _,
-                state: _,
-                class: _,
-                text: _,
-                server: _,
-                procedure: _,
-                line: _,
-            } => {},
-        }
-        next
+// Whether the first n types are column types.
+fn are_types<'a>(types: &'a [u8; 128], limits: &'a [u16; 128], n: usize) -> bool
+    requires { ⌜ n ≤ 128 ⌝ }
+    ensures { λ r. ⌜ r ≡ held n (now (types .entry)) (now (limits .entry)) ⌝ }
+{
+    let mut all = true;
+    let mut i = 0;
+    while i < n {
+        all = cells::is_type(types[i], limits[i]) & all;
+        i += 1;
     }
+    all
+}
+
+// The token at a position: a column or a cell that is to be read, else one by its first byte.
+fn next_at<'a>(packet: &[u8], at: Spot, types: &'a [u8; 128], limits: &'a [u16; 128]) -> TokenRead
+    requires { ⌜ stands (now packet) (holding at (now types) (now limits)) ≡ true ⌝ }
+    ensures { λ r. ⌜ r ≡ tokenRead (nextAt (now (packet .entry)) (holding at (now (types .entry)) (now (limits .entry)))) ⌝ }
+{
+    if 0 < at.columns_left {
+        return token_reader::column_at(packet, at.place);
+    }
+    if 0 < at.cells_left {
+        let i = at.count - at.cells_left;
+        return row_cell_at(packet, at.place, types[i], limits[i]);
+    }
+    token_reader::token_at(packet, at.place, at.count)
+}
+
+// The next cell of the current row, of its column's type.
+fn row_cell_at(packet: &[u8], place: usize, code: u8, limit: u16) -> TokenRead
+    ensures { λ r. ⌜ r ≡ tokenRead (cellToken (cellAt code limit (now (packet .entry)) place)) ⌝ }
+{
+    match cells::cell_at(packet, place, code, limit) {
+        CellRead::Refused(n) => TokenRead::Refused(n),
+        CellRead::Whole(value, next) => TokenRead::Whole(Token::Cell(value), next),
+    }
+}
+
+// The position after a token: COLMETADATA begins a set and any DONE ends it, the last one ends the reply.
+fn spot_after(at: Spot, token: Token, place: usize) -> Spot
+    ensures { λ r. ⌜ r ≡ spotAfter at token place ⌝ }
+{
+    let mut next = at;
+    next.place = place;
+    match token {
+        Token::ColMetadata(n) => {
+            next.count = n as usize;
+            next.columns_left = n as usize;
+        },
+        Token::Column { .. } => {
+            next.columns_left = minus(at.columns_left, 1);
+        },
+        Token::Row => {
+            next.cells_left = at.count;
+        },
+        Token::Cell(_) => {
+            next.cells_left = minus(at.cells_left, 1);
+        },
+        Token::Done { status, .. } => {
+            next.count = 0;
+            next.over = !has_more(status);
+        },
+        Token::Message { .. } => {},
+    }
+    next
 }
 
 // Whether a set follows the DONE of a status.
@@ -293,11 +308,4 @@ fn is_reply(header: PacketHeader, length: usize) -> bool
     (packet_type.byte() == PacketType::TabularResult.byte())
         & PacketStatus::is_end_of_message(status)
         & (header.length as usize == length)
-}
-
-// What is left of a number where some is taken; nothing where more is.
-pub(crate) fn minus(a: usize, b: usize) -> usize
-    ensures { λ r. ⌜ r ≡ a - b ⌝ }
-{
-    if b < a { a - b } else { 0 }
 }

@@ -1,41 +1,47 @@
-// The tokens of a reply, read at a place (MS-TDS 2.2.7). They know nothing of headers and positions.
+// The tokens of a reply, read at a place (MS-TDS 2.2.7.4 COLMETADATA, 2.2.7.6 DONE, 2.2.7.10 ERROR, 2.2.7.13 INFO,
+// 2.2.7.20 ROW). They know nothing of headers and positions.
+use refusals::INNER_WRONG;
+use refusals::ROW_WITHOUT_COLUMNS;
+use refusals::TOO_MANY_COLUMNS;
+use refusals::UNKNOWN_TOKEN;
 ghost use mathlib.Core.Path.{_≡_};
 ghost use mathlib.Core.Bool.{_&&_};
 ghost use Prim.Native.Nat.{_-_, _*_, _≤_};
 ghost use lib.Dec.{leb};
-ghost use Rattle.reader.specs.Places.{even};
-ghost use Rattle.reader.specs.Tokens.{columnAt, metadataAt, rowAt, doneAt, textAt, messageAt, tokenAt};
-ghost use Rattle.reader.specs.Code.{tokenRead, partRead, textsRead, textsAt};
+ghost use Rattle.wire.specs.Even.{even};
+ghost use Rattle.payload.specs.Places.{whole, numberAt};
+ghost use Rattle.payload.specs.Answers.{numberRead, partRead, Below};
+ghost use Rattle.reader.specs.ReadTokens.{columnAt, metadataAt, rowAt, doneAt, textAt, textsAt, messageAt, tokenAt};
+ghost use Rattle.reader.specs.Code.{tokenRead, textsRead};
 use crate::MAX_COLUMNS;
-use crate::ROW_WITHOUT_COLUMNS;
-use crate::TOO_MANY_COLUMNS;
 use crate::Token;
-use crate::UNKNOWN_TOKEN;
-use crate::WRONG;
-use crate::cell_reader::TypeRead;
-use crate::cell_reader::type_at;
-use crate::field_reader::NumberRead;
-use crate::field_reader::PartRead;
-use crate::field_reader::number_at;
-use crate::field_reader::part_at;
-use crate::minus;
+use cells::TypeRead;
+use cells::type_at;
+use payload::NumberRead;
+use payload::PartRead;
+use payload::minus;
+use payload::part_at;
+use payload::u8_at;
+use payload::u16_at;
+use payload::u32_at;
+use payload::u64_at;
 use wire::Part;
 
-// A token, with the place behind it.
+// A token, with the place after it.
 pub(crate) enum TokenRead {
     Whole(Token, usize),
     Refused(u8),
 }
 
-// A column of COLMETADATA: user type, flags, type, and the name behind its count of units.
+// A column of COLMETADATA: user type, flags, type, and the name after its count of units.
 pub(crate) fn column_at(packet: &[u8], at: usize) -> TokenRead
     ensures { λ r. ⌜ r ≡ tokenRead (columnAt (now (packet .entry)) at) ⌝ }
 {
-    let user_type = match number_at(packet, at, 4) {
+    let user_type = match u32_at(packet, at) {
         NumberRead::Refused(n) => return TokenRead::Refused(n),
         NumberRead::Whole(n) => n,
     };
-    let flags = match number_at(packet, user_type.next, 2) {
+    let flags = match u16_at(packet, user_type.next) {
         NumberRead::Refused(n) => return TokenRead::Refused(n),
         NumberRead::Whole(n) => n,
     };
@@ -43,7 +49,7 @@ pub(crate) fn column_at(packet: &[u8], at: usize) -> TokenRead
         TypeRead::Refused(n) => return TokenRead::Refused(n),
         TypeRead::Whole(t) => t,
     };
-    let units = match number_at(packet, read.next, 1) {
+    let units = match u8_at(packet, read.next) {
         NumberRead::Refused(n) => return TokenRead::Refused(n),
         NumberRead::Whole(n) => n,
     };
@@ -72,7 +78,7 @@ pub(crate) fn column_at(packet: &[u8], at: usize) -> TokenRead
 pub(crate) fn token_at(packet: &[u8], at: usize, columns: usize) -> TokenRead
     ensures { λ r. ⌜ r ≡ tokenRead (tokenAt columns (now (packet .entry)) at) ⌝ }
 {
-    let first = match number_at(packet, at, 1) {
+    let first = match u8_at(packet, at) {
         NumberRead::Refused(n) => return TokenRead::Refused(n),
         NumberRead::Whole(n) => n,
     };
@@ -82,17 +88,16 @@ pub(crate) fn token_at(packet: &[u8], at: usize, columns: usize) -> TokenRead
         token::COLMETADATA => metadata_at(packet, next),
         token::ROW => row_at(columns, next),
         token::DONE => done_at(packet, next),
-        token::ERROR => message_at(packet, next, code),
-        token::INFO => message_at(packet, next, code),
+        token::ERROR | token::INFO => message_at(packet, next, code),
         _ => TokenRead::Refused(UNKNOWN_TOKEN),
     }
 }
 
-// COLMETADATA behind its first byte: the count of columns.
+// COLMETADATA after its first byte: the count of columns.
 fn metadata_at(packet: &[u8], at: usize) -> TokenRead
     ensures { λ r. ⌜ r ≡ tokenRead (metadataAt (now (packet .entry)) at) ⌝ }
 {
-    let count = match number_at(packet, at, 2) {
+    let count = match u16_at(packet, at) {
         NumberRead::Refused(n) => return TokenRead::Refused(n),
         NumberRead::Whole(n) => n,
     };
@@ -102,7 +107,7 @@ fn metadata_at(packet: &[u8], at: usize) -> TokenRead
     TokenRead::Whole(Token::ColMetadata(count.value as u16), count.next)
 }
 
-// ROW behind its first byte, in a set of some number of columns.
+// ROW after its first byte, in a set of some number of columns.
 fn row_at(columns: usize, at: usize) -> TokenRead
     ensures { λ r. ⌜ r ≡ tokenRead (rowAt columns at) ⌝ }
 {
@@ -112,19 +117,19 @@ fn row_at(columns: usize, at: usize) -> TokenRead
     TokenRead::Whole(Token::Row, at)
 }
 
-// DONE behind its first byte: status, command, row count.
+// DONE after its first byte: status, command, row count.
 fn done_at(packet: &[u8], at: usize) -> TokenRead
     ensures { λ r. ⌜ r ≡ tokenRead (doneAt (now (packet .entry)) at) ⌝ }
 {
-    let status = match number_at(packet, at, 2) {
+    let status = match u16_at(packet, at) {
         NumberRead::Refused(n) => return TokenRead::Refused(n),
         NumberRead::Whole(n) => n,
     };
-    let command = match number_at(packet, status.next, 2) {
+    let command = match u16_at(packet, status.next) {
         NumberRead::Refused(n) => return TokenRead::Refused(n),
         NumberRead::Whole(n) => n,
     };
-    match number_at(packet, command.next, 8) {
+    match u64_at(packet, command.next) {
         NumberRead::Refused(n) => TokenRead::Refused(n),
         NumberRead::Whole(count) => TokenRead::Whole(
             Token::Done {
@@ -140,27 +145,27 @@ fn done_at(packet: &[u8], at: usize) -> TokenRead
 // The bytes of a message's length that are not of its texts.
 const MESSAGE_FIXED: usize = 14;
 
-// ERROR or INFO behind its first byte: length, number, state, class, the texts, line.
+// ERROR or INFO after its first byte: length, number, state, class, the texts, line.
 fn message_at(packet: &[u8], at: usize, kind: u8) -> TokenRead
     ensures { λ r. ⌜ r ≡ tokenRead (messageAt kind (now (packet .entry)) at) ⌝ }
 {
-    let size = match number_at(packet, at, 2) {
+    let size = match u16_at(packet, at) {
         NumberRead::Refused(n) => return TokenRead::Refused(n),
         NumberRead::Whole(n) => n,
     };
     let length = size.value as usize;
     if !is_message_length(length) {
-        return TokenRead::Refused(WRONG);
+        return TokenRead::Refused(INNER_WRONG);
     }
-    let number = match number_at(packet, size.next, 4) {
+    let number = match u32_at(packet, size.next) {
         NumberRead::Refused(n) => return TokenRead::Refused(n),
         NumberRead::Whole(n) => n,
     };
-    let state = match number_at(packet, number.next, 1) {
+    let state = match u8_at(packet, number.next) {
         NumberRead::Refused(n) => return TokenRead::Refused(n),
         NumberRead::Whole(n) => n,
     };
-    let class = match number_at(packet, state.next, 1) {
+    let class = match u8_at(packet, state.next) {
         NumberRead::Refused(n) => return TokenRead::Refused(n),
         NumberRead::Whole(n) => n,
     };
@@ -206,7 +211,7 @@ enum TextsRead {
     Refused(u8),
 }
 
-// The most bytes of two names of 255 units, and of one.
+// The most bytes of two names, and of one: a name has at most 255 units of two bytes.
 const TWO_NAMES: usize = 1020;
 
 const ONE_NAME: usize = 510;
@@ -231,7 +236,7 @@ fn texts_at(packet: &[u8], at: usize, room: usize) -> TextsRead
         PartRead::Whole(t) => t,
     };
     let procedure = last.part;
-    match number_at(packet, last.next, 4) {
+    match u32_at(packet, last.next) {
         NumberRead::Refused(n) => TextsRead::Refused(n),
         NumberRead::Whole(line) => TextsRead::Whole(
             Texts {
@@ -245,20 +250,32 @@ fn texts_at(packet: &[u8], at: usize, room: usize) -> TextsRead
     }
 }
 
-// A text behind its count of units in k bytes, where room bytes are left for it and for texts that have at most most bytes.
+// A text after its count of units in k bytes, where room bytes are left for it and for texts that have at most most bytes.
 fn text_at(packet: &[u8], at: usize, k: usize, room: usize, most: usize) -> PartRead
-    requires { ⌜ k ≤ 2 ⌝ }
+    requires { ⌜ (1 ≤ k) × (k ≤ 2) ⌝ }
     ensures { λ r. ⌜ r ≡ partRead (textAt k room most (now (packet .entry)) at) ⌝ }
 {
-    let units = match number_at(packet, at, k) {
+    let units = match units_at(packet, at, k) {
         NumberRead::Refused(n) => return PartRead::Refused(n),
         NumberRead::Whole(n) => n,
     };
     let len = 2 * (units.value as usize);
     if !leaves(len, room, most) {
-        return PartRead::Refused(WRONG);
+        return PartRead::Refused(INNER_WRONG);
     }
     part_at(packet, units.next, len)
+}
+
+// A count of units in one byte or in two.
+fn units_at(packet: &[u8], at: usize, k: usize) -> NumberRead
+    requires { ⌜ (1 ≤ k) × (k ≤ 2) ⌝ }
+    ensures { λ r. ⌜ (r ≡ numberRead (numberAt k (now (packet .entry)) at whole)) × Below 2 r ⌝ }
+{
+    if k == 1 {
+        u8_at(packet, at)
+    } else {
+        u16_at(packet, at)
+    }
 }
 
 // Whether a text of len bytes fits the room for it, and leaves at most most of it.

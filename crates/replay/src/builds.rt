@@ -4,6 +4,7 @@ use crate::calls;
 use crate::spaces;
 use crate::told;
 use crate::words;
+use response::Acknowledgement;
 
 // A builder's answer: a refusal, or 0 and how many bytes it wrote.
 struct Told {
@@ -178,12 +179,20 @@ fn build_second(line: &[u8], name: &[u8], one: &[u8], buf: &mut [u8]) -> Told {
             words::u16_at(line, 3),
             two,
             words::bool_at(line, 5),
-            words::u16_at(line, 6),
+            acknowledgement(words::u16_at(line, 6)),
             words::bool_at(line, 7),
             buf,
         ));
     }
     build_message(line, name, two, buf)
+}
+
+// The acknowledgement of enhanced routing that a number stands for: a byte, and none from 256 on.
+fn acknowledgement(ack: u16) -> Acknowledgement {
+    if 256 <= ack {
+        return Acknowledgement::Missing;
+    }
+    Acknowledgement::IsEnabled(ack as u8)
 }
 
 fn build_fedauth(name: &[u8], url: &[u8], spn: &[u8], buf: &mut [u8]) -> Told {

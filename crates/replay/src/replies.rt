@@ -1,9 +1,9 @@
 // The reply reader: a run from the fresh position, its tokens one after the other.
 use crate::told;
+use cells::Value;
 use reader::Answer;
 use reader::Position;
 use reader::Token;
-use reader::Value;
 
 // No run takes more steps: a token takes a byte or more, a reply has at most 65,535, and then come end or refusal.
 const MOST_STEPS: usize = 65536;

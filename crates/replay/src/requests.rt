@@ -3,16 +3,12 @@ use crate::told;
 use packet::PacketHeader;
 use packet::PacketStatus;
 use packet::Parsed;
+use refusals::NONE;
 use request::Batch;
 use request::Descriptor;
 use request::FedAuthToken;
 use request::TransactionRequest;
 use wire::Part;
-
-// Refusals of a text argument.
-const ODD_TEXT: u8 = 21;
-
-const NOT_UTF16: u8 = 22;
 
 // TYPE STATUS LENGTH SPID NUMBER WINDOW, then 1 or 0 for end of message and for ignore
 pub(crate) fn header(input: &[u8], out: &mut [u8]) -> usize {
@@ -46,11 +42,9 @@ pub(crate) fn whitespace(input: &[u8], out: &mut [u8]) -> usize {
 
 // UNITS CHARACTERS BYTES-AS-UTF-8, then 1 or 0 for a surrogate pair
 pub(crate) fn counts(input: &[u8], out: &mut [u8]) -> usize {
-    if input.len() % 2 != 0 {
-        return told::refused(out, 0, ODD_TEXT);
-    }
-    if !text::is_well_formed(input) {
-        return told::refused(out, 0, NOT_UTF16);
+    let fault = text::text_fault(input);
+    if fault != NONE {
+        return told::refused(out, 0, fault);
     }
     let values = [
         text::units(input) as u64,

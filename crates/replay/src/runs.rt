@@ -75,7 +75,7 @@ pub(crate) fn over(list: &[u8]) -> Run {
 fn turn(list: &[u8], run: Run) -> Run {
     let at = run.at;
     let line = words::piece(list, at, b'\n');
-    let run = run.passed(words::behind(list, at, b'\n'));
+    let run = run.passed(words::past(list, at, b'\n'));
     if is_comment(line) {
         return run;
     }

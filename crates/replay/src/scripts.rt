@@ -12,7 +12,7 @@ const SPARE_ROOM: u64 = 32;
 pub(crate) fn room(line: &[u8], input: &[u8], out: &mut [u8]) -> usize {
     match result::room_estimate(input) {
         Room::Bytes(room) => tell_room(words::number(words::answer(line)), room as u64, out),
-        Room::Denied(number) => told::refused(out, 0, number),
+        Room::Refused(number) => told::refused(out, 0, number),
     }
 }
 

@@ -1,5 +1,5 @@
 // What a call answered, as the list writes it: words with a space between them, to a lent buffer from a place on.
-// Each function answers the place behind its word.
+// Each function answers the place after its word.
 
 // A word as it is.
 pub(crate) fn word(out: &mut [u8], at: usize, bytes: &[u8]) -> usize {

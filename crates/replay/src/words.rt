@@ -20,8 +20,8 @@ pub(crate) fn piece(s: &[u8], from: usize, mark: u8) -> &[u8] {
     wire::part_of(s, Part { start: from, len })
 }
 
-// The place behind the next mark, or the end.
-pub(crate) fn behind(s: &[u8], from: usize, mark: u8) -> usize {
+// The place after the next mark, or the end.
+pub(crate) fn past(s: &[u8], from: usize, mark: u8) -> usize {
     let n = span(s, from, mark);
     if wire::left(s, from) <= n {
         return s.len();
@@ -34,7 +34,7 @@ pub(crate) fn word(line: &[u8], number: usize) -> &[u8] {
     let mut at = 0;
     let mut left = number;
     while left > 0 {
-        at = behind(line, at, b' ');
+        at = past(line, at, b' ');
         left -= 1;
     }
     piece(line, at, b' ')
@@ -42,8 +42,8 @@ pub(crate) fn word(line: &[u8], number: usize) -> &[u8] {
 
 // The answer that a line holds: what follows `= `.
 pub(crate) fn answer(line: &[u8]) -> &[u8] {
-    let sign = behind(line, 0, b'=');
-    let start = behind(line, sign, b' ');
+    let sign = past(line, 0, b'=');
+    let start = past(line, sign, b' ');
     let len = wire::left(line, start);
     wire::part_of(line, Part { start, len })
 }
@@ -56,7 +56,7 @@ pub(crate) fn one_of(texts: &[u8], told: &[u8]) -> bool {
         if check::same(piece(texts, at, b','), told) {
             return true;
         }
-        at = behind(texts, at, b',');
+        at = past(texts, at, b',');
         left -= 1;
     }
     false
@@ -121,7 +121,7 @@ pub(crate) fn bytes(runs: &[u8], space: &mut [u8]) -> usize {
     let mut left = runs.len();
     while left > 0 {
         at = put_run(piece(runs, from, b','), space, at);
-        from = behind(runs, from, b',');
+        from = past(runs, from, b',');
         left -= 1;
     }
     at
@@ -132,7 +132,7 @@ fn put_run(run: &[u8], space: &mut [u8], at: usize) -> usize {
     if digits.len() == run.len() {
         return put_pairs(digits, space, at);
     }
-    let count = number(piece(run, behind(run, 0, b'*'), b'*'));
+    let count = number(piece(run, past(run, 0, b'*'), b'*'));
     put_times(digits, count, space, at)
 }
 

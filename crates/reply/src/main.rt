@@ -1,6 +1,7 @@
 // `reply`: a script on standard input; its reply packet, raw, or the line `refused N`.
 use libc::STDIN_FILENO;
 use libc::STDOUT_FILENO;
+use refusals::INPUT_TOO_LONG;
 use result::Built;
 use wire::Part;
 
@@ -8,8 +9,6 @@ use wire::Part;
 const MOST: usize = 65536;
 // A buffer for it, with a byte more to tell a script that is longer.
 const ROOM: usize = 65537;
-// The refusal of a script that is longer.
-const INPUT_TOO_LONG: u8 = 18;
 // The most bytes of a packet.
 const PACKET: usize = 65535;
 

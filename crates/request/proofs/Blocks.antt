@@ -10,6 +10,10 @@ use lib.ListN.{length, drop, length-drop}
 use lib.Seq.{drop-drop}
 use lib.Dec.{leb, eqb}
 use borrow.Author.Tests.{le-ltb, lt-ltb}
+use denote.Enum.Declared.{tagOf}
+use types.Run.{OneOf}
+use mathlib.Core.Logic.{inl, inr}
+use Rattle.request.proofs.Headers.{the-type}
 use Rattle.wire.specs.Le.{leAt}
 use Rattle.request.specs.Headers.{allHeaders}
 use Rattle.request.specs.Transaction.{broken, isDescriptor, descriptorIn}
@@ -18,6 +22,13 @@ use Rattle.request.specs.declared.Headers.the-variants.{Length, Short, P
 use Rattle.request.specs.declared.Descriptor.the-variants.{Found, Missing}
 
 -- ---- the block lies in the request
+
+-- a request that has no whole block
+pub no-block : (X : Headers → Type 0) (h : Headers) → OneOf (1 ∷ 2 ∷ []) (tagOf the-type h) → X Short → X PastEnd → X h
+no-block X (Length n) (inl e) x y = absurd (omega (arith, e))
+no-block X (Length n) (inr e) x y = absurd (omega (arith, e))
+no-block X Short k x y = x
+no-block X PastEnd k x y = y
 
 abbrev Within : ℕ → Headers → Type 0
 Within m Short = Unit {0}
@@ -64,7 +75,7 @@ broken-front [] h = refl
 broken-front (b ∷ l) h = rw h
 
 module _ (s : List ℕ) (at : ℕ) where
-  -- the header at a place, and the headers behind it
+  -- the header at a place, and the headers after it
   pub header-at : {n kind : ℕ} {t : Bool} → 6 ≤ length s - at → 6 ≤ n → n ≤ length s - at → n ≡ leAt 4 (drop at s) → kind ≡ leAt 2 (drop (at + 4) s)
       → (eqb kind 2 && leb 18 n) ≡ t
       → descriptorIn 0 (drop at s) ≡ cond t (Found (leAt 8 (drop (at + 6) s)) (leAt 4 (drop (at + 14) s))) (descriptorIn 0 (drop (at + n) s))

@@ -5,6 +5,7 @@ use mathlib.Core.List.{List}
 use mathlib.Core.Bool.{cond}
 use lib.Dec.{eqb}
 use lib.ListN.{length, take, drop}
+use Rattle.refusals.specs.Numbers.{batchEmpty, batchNotUtf16, batchTooShort, headersPastEnd}
 use Rattle.wire.specs.declared.Part.{Part}
 use Rattle.text.specs.Units.{units}
 use Rattle.text.specs.Surrogates.{wellFormed}
@@ -20,19 +21,19 @@ unfoldable pub sqlFrom : List ℕ → ℕ → List ℕ
 sqlFrom body at = take (2 * units (drop at body)) (drop at body)
 
 -- a part that counts from another place
-abbrev pub behind : ℕ → Part → Part
-behind at p = record { start = at + p .start; len = p .len }
+abbrev pub movedBy : ℕ → Part → Part
+movedBy at p = record { start = at + p .start; len = p .len }
 
 -- the text from a place on, without white space at its ends, as a part of the batch; 4 where it is not UTF-16
 unfoldable pub batchText : List ℕ → ℕ → Batch
-batchText body at = cond (wellFormed (sqlFrom body at)) (Text (behind at (trimmed (sqlFrom body at)))) (Refused 4)
+batchText body at = cond (wellFormed (sqlFrom body at)) (Text (movedBy at (trimmed (sqlFrom body at)))) (Refused batchNotUtf16)
 
--- behind the headers: 2 under 4 bytes, 3 headers past the end
-abbrev pub batchBehind : List ℕ → Headers → Batch
-batchBehind body Short = Refused 2
-batchBehind body PastEnd = Refused 3
-batchBehind body (Length n) = batchText body n
+-- after the headers: 2 under 4 bytes, 3 headers past the end
+abbrev pub batchAfter : List ℕ → Headers → Batch
+batchAfter body Short = Refused batchTooShort
+batchAfter body PastEnd = Refused headersPastEnd
+batchAfter body (Length n) = batchText body n
 
 -- the text of a batch; 1 where the batch is empty
 unfoldable pub sqlBatch : List ℕ → Batch
-sqlBatch body = cond (eqb (length body) 0) (Refused 1) (batchBehind body (allHeaders body))
+sqlBatch body = cond (eqb (length body) 0) (Refused batchEmpty) (batchAfter body (allHeaders body))

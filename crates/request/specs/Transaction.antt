@@ -5,6 +5,7 @@ use mathlib.Core.List.{List, [], _∷_}
 use mathlib.Core.Bool.{Bool, cond, _&&_, _||_}
 use lib.Dec.{leb, ltb, eqb}
 use lib.ListN.{length, take, drop}
+use Rattle.refusals.specs.Numbers.{noTransactionType}
 use Rattle.wire.specs.Le.{leAt}
 use Rattle.request.specs.Headers.{allHeaders}
 use Rattle.request.specs.declared.Headers.{Headers}
@@ -14,15 +15,15 @@ use Rattle.request.specs.declared.TransactionRequest.the-variants.{Reque
 use Rattle.request.specs.declared.Descriptor.{Descriptor}
 use Rattle.request.specs.declared.Descriptor.the-variants.{Found, Missing}
 
--- the type behind the headers; 10 where there is none
-abbrev pub typeBehind : List ℕ → Headers → TransactionRequest
-typeBehind body Short = Refused 10
-typeBehind body PastEnd = Refused 10
-typeBehind body (Length n) = cond (ltb (length body - n) 2) (Refused 10) (RequestType (leAt 2 (drop n body)))
+-- the type after the headers; 10 where there is none
+abbrev pub typeAfter : List ℕ → Headers → TransactionRequest
+typeAfter body Short = Refused noTransactionType
+typeAfter body PastEnd = Refused noTransactionType
+typeAfter body (Length n) = cond (ltb (length body - n) 2) (Refused noTransactionType) (RequestType (leAt 2 (drop n body)))
 
 -- the type of a transaction manager request
 unfoldable pub transactionRequest : List ℕ → TransactionRequest
-transactionRequest body = typeBehind body (allHeaders body)
+transactionRequest body = typeAfter body (allHeaders body)
 
 -- a header whose 4-byte length and 2-byte type are not whole, or whose length n is under 6 or past the block
 abbrev pub broken : ℕ → List ℕ → Bool
@@ -45,12 +46,12 @@ descriptorIn zero (b ∷ l) =
     (cond (isDescriptor n header) (Found (leAt 8 (drop 6 header)) (leAt 4 (drop 14 header)))
     (descriptorIn (n - 1) l))
 
--- the headers of a request stand behind the block's length, which the Rust takes here from 4 on
-abbrev pub descriptorBehind : List ℕ → Headers → Descriptor
-descriptorBehind body Short = Missing
-descriptorBehind body PastEnd = Missing
-descriptorBehind body (Length n) = cond (ltb n 4) Missing (descriptorIn 0 (take (n - 4) (drop 4 body)))
+-- the headers of a request stand after the block's length, which the Rust takes here from 4 on
+abbrev pub descriptorAfter : List ℕ → Headers → Descriptor
+descriptorAfter body Short = Missing
+descriptorAfter body PastEnd = Missing
+descriptorAfter body (Length n) = cond (ltb n 4) Missing (descriptorIn 0 (take (n - 4) (drop 4 body)))
 
 -- the transaction descriptor and the count of outstanding requests of a request; none is an answer
 unfoldable pub transactionDescriptor : List ℕ → Descriptor
-transactionDescriptor body = descriptorBehind body (allHeaders body)
+transactionDescriptor body = descriptorAfter body (allHeaders body)

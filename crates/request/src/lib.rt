@@ -1,5 +1,13 @@
 // Requests of a client: SQL batches, transaction manager requests, the transaction descriptor among their headers, and
 // federated authentication tokens. Any bytes are answered; a refusal is its number in document 01.
+use refusals::BATCH_EMPTY;
+use refusals::BATCH_NOT_UTF16;
+use refusals::BATCH_TOO_SHORT;
+use refusals::HEADERS_PAST_END;
+use refusals::INNER_LENGTH;
+use refusals::NO_TRANSACTION_TYPE;
+use refusals::OUTER_LENGTH;
+use refusals::TOKEN_TOO_SHORT;
 use wire::Part;
 ghost use mathlib.Core.Path.{_≡_};
 ghost use Prim.Native.Nat.{_≤_};
@@ -8,30 +16,6 @@ ghost use Rattle.request.specs.Headers.{allHeaders};
 ghost use Rattle.request.specs.Batch.{batchText, sqlBatch};
 ghost use Rattle.request.specs.Transaction.{transactionRequest, descriptorIn, transactionDescriptor};
 ghost use Rattle.request.specs.FedAuth.{fedAuthToken};
-
-// A batch that is empty.
-pub const BATCH_EMPTY: u8 = 1;
-
-// A batch under 4 bytes.
-pub const BATCH_TOO_SHORT: u8 = 2;
-
-// A batch whose headers run past its end.
-pub const HEADERS_PAST_END: u8 = 3;
-
-// A batch whose text is not UTF-16.
-pub const TEXT_NOT_UTF16: u8 = 4;
-
-// A token message under 8 bytes.
-pub const TOKEN_TOO_SHORT: u8 = 5;
-
-// A token message whose outer length is wrong.
-pub const OUTER_LENGTH: u8 = 6;
-
-// A token message whose inner length is wrong.
-pub const INNER_LENGTH: u8 = 7;
-
-// A transaction request without a type.
-pub const NO_TRANSACTION_TYPE: u8 = 10;
 
 // The type of a transaction descriptor header (MS-TDS 2.2.5.3.2).
 const HEADER_TYPE_TRANSACTION_DESCRIPTOR: u16 = 2;
@@ -110,7 +94,7 @@ fn batch_text(body: &[u8], at: usize) -> Batch
     let even = 2 * text::units(rest);
     let sql = &rest[..even];
     if !text::is_well_formed(sql) {
-        return Batch::Refused(TEXT_NOT_UTF16);
+        return Batch::Refused(BATCH_NOT_UTF16);
     }
     let part = text::trimmed(sql);
     Batch::Text(Part {
@@ -119,14 +103,13 @@ fn batch_text(body: &[u8], at: usize) -> Batch
     })
 }
 
-// The type of a transaction manager request, which stands behind the headers.
+// The type of a transaction manager request, which stands after the headers.
 pub fn parse_transaction_manager_request(body: &[u8]) -> TransactionRequest
     ensures { λ r. ⌜ r ≡ transactionRequest (now (body .entry)) ⌝ }
 {
     let headers = all_headers(body);
     match headers {
-        Headers::Short => TransactionRequest::Refused(NO_TRANSACTION_TYPE),
-        Headers::PastEnd => TransactionRequest::Refused(NO_TRANSACTION_TYPE),
+        Headers::Short | Headers::PastEnd => TransactionRequest::Refused(NO_TRANSACTION_TYPE),
         Headers::Length(at) => {
             if wire::left(body, at) < 2 {
                 return TransactionRequest::Refused(NO_TRANSACTION_TYPE);
@@ -142,8 +125,7 @@ pub fn parse_transaction_descriptor_header(body: &[u8]) -> Descriptor
 {
     let headers = all_headers(body);
     match headers {
-        Headers::Short => Descriptor::Missing,
-        Headers::PastEnd => Descriptor::Missing,
+        Headers::Short | Headers::PastEnd => Descriptor::Missing,
         Headers::Length(end) => {
             if end < 4 {
                 return Descriptor::Missing;

@@ -1,6 +1,6 @@
 -- How builders end: one law for each way, over the fault, the size that was worked out, the bytes and the lent buffer.
 -- A size may be cut off at 65,536: it refuses all the same. Assumes nothing.
-use Prim.Native.Nat.{ℕ, zero, suc, _+_, _≤_, _<_}
+use Prim.Native.Nat.{ℕ, zero, suc, _+_, _≤_, _<_, min}
 use mathlib.Core.Path.{_≡_, refl, sym, ap, _∙_}
 use mathlib.Core.Bool.{cond}
 use mathlib.Core.List.{List}
@@ -16,7 +16,10 @@ use Rattle.packet.proofs.Sizes.{length-packet}
 use Rattle.response.specs.declared.Built.{Built}
 use Rattle.response.specs.declared.Built.the-variants.{Written, Refused}
 use Rattle.response.specs.Answer.{Reply, reply, firstOf, refusalOf, builtOf, bufferOf}
-use Rattle.response.specs.Sizes.{Same}
+
+-- two sizes that count the same: equal, or both over 65,535
+abbrev pub Same : ℕ → ℕ → Type 0
+Same m n = min m 65536 ≡ min n 65536
 
 -- a builder's two promises: its answer r and what it left in the buffer
 abbrev pub Ended : Reply → List ℕ → List ℕ → Built → Type 0
@@ -58,7 +61,7 @@ module _ {before fault : ℕ} (size : ℕ) (bytes buf : List ℕ) {n : ℕ} (of 
       let no : refusalOf fault (length bytes) (length buf) ≡ 0 = sym is ∙ h in
       rw no (ap Written (omega (arith, w .1 .place, none fault (length bytes) (length buf) no .2)), w .0)
 
--- a packet: its header, and its payload behind it
+-- a packet: its header, and its payload after it
 module _ {before fault : ℕ} (size : ℕ) (payload buf : List ℕ) {n : ℕ} (of : before ≡ fault) (found : n ≡ refusalOf before size (length buf))
     (same : before ≡ 0 → Same size (8 + length payload)) where
   whole : before ≡ 0 → Same size (length (packetOf payload))

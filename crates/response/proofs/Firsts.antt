@@ -7,7 +7,7 @@ use borrow.Author.Tests.{ne-eqb}
 use Rattle.text.specs.Units.{unitsOf}
 use Rattle.text.specs.Surrogates.{paired, surrogates, wellFormed}
 use Rattle.response.specs.Answer.{firstOf}
-use Rattle.response.specs.Arguments.{textFault}
+use Rattle.text.specs.Arguments.{textFault}
 
 pub found : {n a : ℕ} (rest : List ℕ) → n ≡ a → (n ≡ 0 → ⊥) → n ≡ firstOf (a ∷ rest)
 unfolding firstOf

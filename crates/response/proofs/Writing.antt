@@ -34,7 +34,7 @@ pub low-be : (k a b : ℕ) → a % 256 ^ k ≡ b % 256 ^ k → be k a ≡ be k b
 unfolding be
 low-be k a b e = ap reverse (low-same k a b e)
 
--- a text behind the low bytes of its count
+-- a text after the low bytes of its count
 pub counted-low : (n : ℕ) (t : List ℕ) {l m : List ℕ} {at to : ℕ} → Wrote l at (flat (word 2 (n % 65536) ∷ raw t ∷ [])) m to → Wrote l at (flat (word 2 n ∷ raw t ∷ [])) m to
 unfolding flat
 counted-low n t w = wrote-as w (rw (le-mod 2 n))

@@ -5,6 +5,7 @@ use mathlib.Core.Bool.{cond}
 use mathlib.Core.List.{List, [], _∷_}
 use lib.ListN.{length}
 use lib.Dec.{eqb, ltb}
+use Rattle.refusals.specs.Numbers.{bufferTooShort, resultTooLong}
 use Rattle.wire.specs.Over.{overwrite}
 use Rattle.response.specs.declared.Built.{Built}
 use Rattle.response.specs.declared.Built.the-variants.{Written, Refused}
@@ -20,7 +21,7 @@ firstOf (n ∷ ns) = cond (eqb n 0) (firstOf ns) n
 
 -- a reply's refusal, or 0: its fault, then 17 over 65,535 bytes, then 20 where the lent buffer is too short
 unfoldable pub refusalOf : ℕ → ℕ → ℕ → ℕ
-refusalOf fault size room = firstOf (fault ∷ cond (ltb 65535 size) 17 0 ∷ cond (ltb room size) 20 0 ∷ [])
+refusalOf fault size room = firstOf (fault ∷ cond (ltb 65535 size) resultTooLong 0 ∷ cond (ltb room size) bufferTooShort 0 ∷ [])
 
 -- the answer: how many bytes were written, or the refusal
 unfoldable pub builtOf : Reply → List ℕ → Built

@@ -1,4 +1,4 @@
--- What answers a client that connects: PRELOGIN (MS-TDS 2.2.6.5), LOGINACK (2.2.7.14) with the ENVCHANGEs behind it
+-- What answers a client that connects: PRELOGIN (MS-TDS 2.2.6.5), LOGINACK (2.2.7.14) with the ENVCHANGEs after it
 -- (2.2.7.9), features (FEATUREEXTACK, 2.2.7.11) and FEDAUTHINFO (2.2.7.12). Rests on wire's fields and token's texts.
 use Prim.Native.Nat.{ℕ, _+_}
 use mathlib.Core.Bool.{Bool, true, false, cond}
@@ -9,7 +9,7 @@ use Rattle.wire.specs.Be.{be}
 use Rattle.wire.specs.Fields.{Field, word, raw, flat}
 use Rattle.token.specs.Tokens.{bVarchar}
 
--- fields behind their length in k bytes
+-- fields after their length in k bytes
 abbrev pub counted : ℕ → List Field → List Field → List Field
 counted k body fs = word k (length (flat body)) ∷ raw (flat body) ∷ fs
 
@@ -66,7 +66,7 @@ loginAck =
 
 -- ---- features and FEDAUTH
 
--- a feature that is acknowledged, from id and data: the id, and the data behind its length
+-- a feature that is acknowledged, from id and data: the id, and the data after its length
 abbrev pub feature : List ℕ → List Field → List Field
 feature p fs = word 1 (leAt 1 p) ∷ word 4 (length (drop 1 p)) ∷ raw (drop 1 p) ∷ fs
 

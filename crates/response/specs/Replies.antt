@@ -3,19 +3,21 @@
 use Prim.Native.Nat.{ℕ}
 use mathlib.Core.Bool.{Bool, true, false, cond, not}
 use mathlib.Core.List.{List, [], _∷_, _++_}
-use lib.Dec.{eqb, ltb}
+use lib.Dec.{eqb}
 use Rattle.wire.specs.Be.{be}
 use Rattle.wire.specs.Fields.{Field, word, raw, flat}
 use Rattle.text.specs.Surrogates.{utf8Length}
 use Rattle.packet.specs.Reply.{packetOf}
 use Rattle.script.specs.Records.{Item, item, records}
-use Rattle.token.specs.Tokens.{done, message, bytesOf, messageLength}
-use Rattle.response.specs.declared.ListKind.the-variants.{Routes, Features}
+use Rattle.token.specs.Tokens.{done, message, tokenBytes, messageLength}
+use Rattle.token.specs.Names.{nameFault}
+use Rattle.response.specs.declared.Acknowledgement.{Acknowledgement}
+use Rattle.response.specs.declared.Acknowledgement.the-variants.{IsEnabled, Missing}
 use Rattle.response.specs.Answer.{Reply, reply, firstOf}
-use Rattle.response.specs.Arguments.{textFault, nameFault}
+use Rattle.text.specs.Arguments.{textFault}
 use Rattle.response.specs.Login.{envChange, prelogin, loginAck, fedauthInfo}
 use Rattle.response.specs.Routing.{plainRoute, databaseRoute}
-use Rattle.response.specs.Lists.{listFault, listBytes, featureExtAck}
+use Rattle.response.specs.Lists.{routesFault, routesBytes, featuresFault, featureExtAck}
 
 -- PRELOGIN with encryption and FEDAUTH or without
 unfoldable pub preloginReply : Bool → Bool → Reply
@@ -34,7 +36,7 @@ classificationAckReply v = reply 0 (featureAck (0x09 ∷ v ∷ 0x01 ∷ []))
 
 -- the features of a list of records
 unfoldable pub featuresReply : List ℕ → Reply
-featuresReply list = reply (listFault Features (records list)) (featureExtAck (records list))
+featuresReply list = reply (featuresFault (records list)) (featureExtAck (records list))
 
 unfoldable pub routingAckReply : ℕ → Reply
 routingAckReply enabled = reply 0 (featureAck (0x0F ∷ enabled ∷ []))
@@ -52,11 +54,11 @@ loginAckReply = reply 0 loginAck
 
 -- every DONE has CurCmd C1, SELECT
 unfoldable pub doneReply : ℕ → ℕ → Reply
-doneReply status rows = reply 0 (bytesOf (done status 0xC1 rows))
+doneReply status rows = reply 0 (tokenBytes (done status 0xC1 rows))
 
 -- DONE_ATTN
 unfoldable pub attentionReply : Reply
-attentionReply = reply 0 (packetOf (bytesOf (done 0x0020 0xC1 0)))
+attentionReply = reply 0 (packetOf (tokenBytes (done 0x0020 0xC1 0)))
 
 -- the transaction descriptor
 abbrev pub descriptor : List ℕ
@@ -71,17 +73,17 @@ transaction t =
     (cond (eqb t 8) (envChange (word 1 10 ∷ word 1 0 ∷ word 1 8 ∷ raw descriptor ∷ []) []) []))
 
 unfoldable pub transactionReply : ℕ → Reply
-transactionReply t = reply 0 (flat (transaction t) ++ bytesOf (done 0x0000 0xC1 0))
+transactionReply t = reply 0 (flat (transaction t) ++ tokenBytes (done 0x0000 0xC1 0))
 
 -- number, state, severity, message, server, procedure, line
 unfoldable pub infoReply : ℕ → ℕ → ℕ → List ℕ → List ℕ → List ℕ → ℕ → Reply
 infoReply n s c m v p l =
-    reply (firstOf (textFault m ∷ textFault v ∷ textFault p ∷ nameFault v ∷ nameFault p ∷ [])) (bytesOf (message 0xAB n s c m v p l))
+    reply (firstOf (textFault m ∷ textFault v ∷ textFault p ∷ nameFault v ∷ nameFault p ∷ [])) (tokenBytes (message 0xAB n s c m v p l))
 
 -- an ERROR of state 1 and line 1 without names, and its DONE: 0003, more and error, leading; 0002, error, terminal
 unfoldable pub errorTokensReply : ℕ → ℕ → ℕ → List ℕ → Reply
 errorTokensReply status n c m =
-    reply (textFault m) (bytesOf (message 0xAA n 1 c m [] [] 1) ++ bytesOf (done status 0xC1 0))
+    reply (textFault m) (tokenBytes (message 0xAA n 1 c m [] [] 1) ++ tokenBytes (done status 0xC1 0))
 
 -- the ERROR of an error reply, 50000 of state 1 and severity 16, as the Rust writes it: the length is big-endian, and the
 -- text's count is that of its bytes as UTF-8, modulo 65,536 (MS-TDS 2.2.7.10: little-endian, and units)
@@ -91,7 +93,7 @@ errorFields m =
     ∷ word 2 (utf8Length m) ∷ raw m ∷ word 1 0 ∷ word 1 0 ∷ word 4 1 ∷ []
 
 unfoldable pub errorReply : List ℕ → Reply
-errorReply m = reply (textFault m) (packetOf (flat (errorFields m) ++ bytesOf (done 0x0000 0xC1 0)))
+errorReply m = reply (textFault m) (packetOf (flat (errorFields m) ++ tokenBytes (done 0x0000 0xC1 0)))
 
 unfoldable pub routeReply : List ℕ → ℕ → Reply
 routeReply host port = reply (textFault host) (flat (plainRoute host port))
@@ -100,21 +102,22 @@ unfoldable pub databaseRouteReply : List ℕ → ℕ → List ℕ → Reply
 databaseRouteReply host port database =
     reply (firstOf (textFault host ∷ textFault database ∷ [])) (flat (databaseRoute host port database))
 
--- an acknowledgement of enhanced routing; 256 and above stand for none
-unfoldable pub routingAck : Bool → ℕ → List ℕ
-routingAck sent ack = cond sent (cond (ltb ack 256) (featureAck (0x0F ∷ ack ∷ [])) []) []
+-- an acknowledgement of enhanced routing, or none
+abbrev pub routingAck : Acknowledgement → List ℕ
+routingAck (IsEnabled b) = featureAck (0x0F ∷ b ∷ [])
+routingAck Missing = []
 
 -- the login's acknowledgement where it is sent, the routes' ENVCHANGEs with the acknowledgement of enhanced routing before
--- or behind them, DONE
-unfoldable pub routingTokens : List ℕ → ℕ → List Item → Bool → ℕ → Bool → List ℕ
+-- or after them, DONE
+unfoldable pub routingTokens : List ℕ → ℕ → List Item → Bool → Acknowledgement → Bool → List ℕ
 routingTokens host port routes login ack before =
-    cond login loginAck [] ++ routingAck before ack ++ listBytes host port routes ++ routingAck (not before) ack
-    ++ bytesOf (done 0x0000 0xC1 0)
+    cond login loginAck [] ++ cond before (routingAck ack) [] ++ routesBytes host port routes
+    ++ cond (not before) (routingAck ack) [] ++ tokenBytes (done 0x0000 0xC1 0)
 
-unfoldable pub routingLoginReply : List ℕ → ℕ → List Item → Bool → ℕ → Bool → Reply
+unfoldable pub routingLoginReply : List ℕ → ℕ → List Item → Bool → Acknowledgement → Bool → Reply
 routingLoginReply host port routes login ack before =
-    reply (firstOf (textFault host ∷ listFault Routes routes ∷ [])) (packetOf (routingTokens host port routes login ack before))
+    reply (firstOf (textFault host ∷ routesFault routes ∷ [])) (packetOf (routingTokens host port routes login ack before))
 
--- one plain route, behind the login's acknowledgement
+-- one plain route, after the login's acknowledgement
 unfoldable pub routingReply : List ℕ → ℕ → Reply
-routingReply host port = routingLoginReply host port (item 0x11 [] ∷ []) true 256 false
+routingReply host port = routingLoginReply host port (item 0x11 [] ∷ []) true Missing false

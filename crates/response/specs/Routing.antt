@@ -9,7 +9,7 @@ use Rattle.response.specs.Login.{counted, envChange}
 abbrev pub target : List ℕ → ℕ → List Field → List Field
 target host port fs = word 1 0x00 ∷ word 2 port ∷ usVarchar host fs
 
--- an ENVCHANGE of a routing type: the new value behind its length, and no old one
+-- an ENVCHANGE of a routing type: the new value after its length, and no old one
 abbrev pub routing : ℕ → List Field → List Field
 routing type value = envChange (word 1 type ∷ counted 2 value (word 2 0 ∷ [])) []
 

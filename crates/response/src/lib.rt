@@ -4,52 +4,39 @@
 mod faults;
 mod put;
 
+use refusals::NONE;
 ghost use mathlib.Core.Path.{_≡_};
 ghost use mathlib.Core.Bool.{false};
 ghost use mathlib.Core.List.{[], _∷_};
 ghost use Rattle.script.specs.Records.{records};
 ghost use Rattle.response.specs.Answer.{reply, firstOf, builtOf, bufferOf};
-ghost use Rattle.response.specs.Arguments.{textFault};
-ghost use Rattle.response.specs.Lists.{itemBytes};
+ghost use Rattle.text.specs.Arguments.{textFault};
+ghost use Rattle.response.specs.Lists.{routeBytes};
 ghost use Rattle.response.specs.Replies.{preloginReply, fedauthAckReply, classificationAckReply, featuresReply, routingAckReply, challengeReply, fedauthInfoReply, loginAckReply, doneReply, attentionReply, transactionReply, infoReply, errorTokensReply, errorReply, routeReply, databaseRouteReply, routingLoginReply, routingReply};
 use faults::capped;
 use faults::fedauth_info_size;
 use faults::info_fault;
-use faults::item_size;
 use faults::login_size;
-use faults::measure;
-use faults::measure_routes;
+use faults::measure_features;
+use faults::measure_routing;
 use faults::refusal;
-use faults::text_fault;
+use faults::route_size;
 use faults::texts_fault;
 use packet::PACKET_HEADER_SIZE;
 use packet::write_reply_header;
 use put::LOGIN_ACK;
-use put::NO_ACK;
 use put::put_error;
 use put::put_feature_ext_ack;
 use put::put_fedauth_info;
-use put::put_item;
+use put::put_route;
 use put::put_routing_tokens;
+use text::text_fault;
 
 // What a builder answers: how many bytes it wrote, or a refusal, which leaves the buffer.
 pub enum Built {
     Written(usize),
     Refused(u8),
 }
-
-// Refusals that the caller causes; those of a list's records are script's. 0 stands for none.
-const NONE: u8 = 0;
-// An info's server or procedure name over 255 units.
-pub const NAME_TOO_LONG: u8 = 16;
-// The packet, or the bare tokens, are over 65,535 bytes.
-pub const REPLY_TOO_LONG: u8 = 17;
-// The lent buffer is too short.
-pub const BUFFER_TOO_SHORT: u8 = 20;
-// A text argument of an odd number of bytes.
-pub const ODD_TEXT: u8 = 21;
-// A text argument that is not UTF-16.
-pub const NOT_UTF16: u8 = 22;
 
 // The kinds of records in lists: routes, and features that are acknowledged.
 pub const PLAIN_ROUTE: u16 = 0x0011;
@@ -58,10 +45,10 @@ pub const DATABASE_ROUTE: u16 = 0x0012;
 
 pub const FEATURE: u16 = 0x0013;
 
-// The record lists, by what they hold.
-enum ListKind {
-    Routes,
-    Features,
+// An acknowledgement of enhanced routing with its byte IsEnabled, or none: the Rust's `Option<u8>`.
+pub enum Acknowledgement {
+    IsEnabled(u8),
+    Missing,
 }
 
 // What is found of a list before it is written: its refusal, or none, and its size in bytes.
@@ -181,7 +168,7 @@ pub fn build_feature_ext_ack(features: &[u8], buf: &mut [u8]) -> Built
     ensures { λ r. ⌜ r ≡ builtOf (featuresReply (now (features .entry))) (now (buf .entry)) ⌝ }
     ensures { λ _. ⌜ now (buf .exit) ≡ bufferOf (featuresReply (now (features .entry))) (now (buf .entry)) ⌝ }
 {
-    let list = measure(ListKind::Features, features, b"");
+    let list = measure_features(features);
     let found = refusal(list.refusal, 2 + list.size, buf.len());
     if found != NONE {
         return Built::Refused(found);
@@ -402,15 +389,15 @@ pub fn build_error_response(message: &[u8], buf: &mut [u8]) -> Built
 
 // ENVCHANGE of a route by its kind; a plain one has no database.
 fn route_token(kind: u16, host: &[u8], port: u16, database: &[u8], buf: &mut [u8]) -> Built
-    ensures { λ r. ⌜ r ≡ builtOf (reply (firstOf (textFault (now (host .entry)) ∷ textFault (now (database .entry)) ∷ [])) (itemBytes (now (host .entry)) port kind (now (database .entry)))) (now (buf .entry)) ⌝ }
-    ensures { λ _. ⌜ now (buf .exit) ≡ bufferOf (reply (firstOf (textFault (now (host .entry)) ∷ textFault (now (database .entry)) ∷ [])) (itemBytes (now (host .entry)) port kind (now (database .entry)))) (now (buf .entry)) ⌝ }
+    ensures { λ r. ⌜ r ≡ builtOf (reply (firstOf (textFault (now (host .entry)) ∷ textFault (now (database .entry)) ∷ [])) (routeBytes (now (host .entry)) port kind (now (database .entry)))) (now (buf .entry)) ⌝ }
+    ensures { λ _. ⌜ now (buf .exit) ≡ bufferOf (reply (firstOf (textFault (now (host .entry)) ∷ textFault (now (database .entry)) ∷ [])) (routeBytes (now (host .entry)) port kind (now (database .entry)))) (now (buf .entry)) ⌝ }
 {
     let fault = texts_fault(host, database);
-    let found = refusal(fault, item_size(kind, host, database), buf.len());
+    let found = refusal(fault, route_size(kind, host, database), buf.len());
     if found != NONE {
         return Built::Refused(found);
     }
-    Built::Written(put_item(buf, 0, kind, database, host, port))
+    Built::Written(put_route(buf, 0, kind, database, host, port))
 }
 
 pub fn build_routing_envchange_token(
@@ -437,7 +424,7 @@ pub fn build_routing_response(redirect_host: &[u8], redirect_port: u16, buf: &mu
         redirect_port,
         &ONE_PLAIN_ROUTE,
         true,
-        NO_ACK,
+        Acknowledgement::Missing,
         false,
         buf,
     )
@@ -455,21 +442,21 @@ pub fn build_enhanced_routing_envchange_token(
     route_token(DATABASE_ROUTE, redirect_host, redirect_port, database, buf)
 }
 
-// The packet of a login that is routed: the login's acknowledgement, the routes, DONE; and before or behind the routes an
-// acknowledgement of enhanced routing with a byte, or none where ack is 256 or more.
+// The packet of a login that is routed: the login's acknowledgement, the routes, DONE; and before or after the routes an
+// acknowledgement of enhanced routing, or none.
 pub fn build_routing_login_response(
     redirect_host: &[u8],
     redirect_port: u16,
     routes: &[u8],
     login_ack: bool,
-    ack: u16,
+    ack: Acknowledgement,
     ack_before_routing: bool,
     buf: &mut [u8],
 ) -> Built
     ensures { λ r. ⌜ r ≡ builtOf (routingLoginReply (now («redirect_host» .entry)) «redirect_port» (records (now (routes .entry))) «login_ack» ack «ack_before_routing») (now (buf .entry)) ⌝ }
     ensures { λ _. ⌜ now (buf .exit) ≡ bufferOf (routingLoginReply (now («redirect_host» .entry)) «redirect_port» (records (now (routes .entry))) «login_ack» ack «ack_before_routing») (now (buf .entry)) ⌝ }
 {
-    let list = measure_routes(redirect_host, routes);
+    let list = measure_routing(redirect_host, routes);
     let size = PACKET_HEADER_SIZE + login_size(login_ack, ack) + list.size + DONE_SIZE;
     let found = refusal(list.refusal, size, buf.len());
     if found != NONE {

@@ -1,6 +1,6 @@
-// Writers: each puts its bytes at a place of the lent buffer and answers the place behind them; what lies past the
+// Writers: each puts its bytes at a place of the lent buffer and answers the place after them; what lies past the
 // buffer's end is not written.
-use crate::DATABASE_ROUTE;
+use crate::Acknowledgement;
 use crate::PLAIN_ROUTE;
 use script::Found;
 ghost use mathlib.Core.Path.{_≡_};
@@ -14,7 +14,7 @@ ghost use Rattle.wire.specs.Over.{Wrote};
 ghost use Rattle.script.specs.Records.{records};
 ghost use Rattle.response.specs.Login.{loginAck, feature, infoOption, infoOptions, fedauthInfo};
 ghost use Rattle.response.specs.Routing.{target, plainRoute, databaseRoute};
-ghost use Rattle.response.specs.Lists.{itemBytes, listBytes, featureExtAck};
+ghost use Rattle.response.specs.Lists.{routeBytes, routesBytes, featuresBytes, featureExtAck};
 ghost use Rattle.response.specs.Replies.{errorFields, routingAck, routingTokens};
 
 // The codes of tokens, as MS-TDS numbers them.
@@ -43,7 +43,7 @@ fn put_nothing(buf: &[u8], at: usize) -> usize
     if buf.len() < at { buf.len() } else { at }
 }
 
-// A text behind a count.
+// A text after a count.
 fn put_text(buf: &mut [u8], at: usize, count: u16, text: &[u8]) -> usize
     ensures { λ r. ⌜ Wrote (now (buf .entry)) at (flat (word 2 count ∷ raw (now (text .entry)) ∷ [])) (now (buf .exit)) r ⌝ }
 {
@@ -96,11 +96,11 @@ fn put_feature(buf: &mut [u8], at: usize, p: &[u8]) -> usize
 {
     let a = wire::put_u8(buf, at, wire::get_u8(p, 0));
     let b = wire::put_u32_le(buf, a, (wire::left(p, 1) % 0x1_0000_0000) as u32);
-    wire::put_slice(buf, b, script::behind(p, 1))
+    wire::put_slice(buf, b, script::rest_after(p, 1))
 }
 
-// A record of a list: a route to a host and port, or a feature, which has neither.
-pub(crate) fn put_item(
+// A route by its record's kind and payload.
+pub(crate) fn put_route(
     buf: &mut [u8],
     at: usize,
     kind: u16,
@@ -108,35 +108,50 @@ pub(crate) fn put_item(
     host: &[u8],
     port: u16,
 ) -> usize
-    ensures { λ r. ⌜ Wrote (now (buf .entry)) at (itemBytes (now (host .entry)) port kind (now (p .entry))) (now (buf .exit)) r ⌝ }
+    ensures { λ r. ⌜ Wrote (now (buf .entry)) at (routeBytes (now (host .entry)) port kind (now (p .entry))) (now (buf .exit)) r ⌝ }
 {
     if kind == PLAIN_ROUTE {
         return put_plain_route(buf, at, host, port);
     }
-    if kind == DATABASE_ROUTE {
-        return put_database_route(buf, at, host, port, p);
-    }
-    put_feature(buf, at, p)
+    put_database_route(buf, at, host, port, p)
 }
 
-// The records of a list that no refusal met.
-fn put_list(buf: &mut [u8], at: usize, list: &[u8], host: &[u8], port: u16) -> usize
-    ensures { λ r. ⌜ Wrote (now (buf .entry)) at (listBytes (now (host .entry)) port (records (now (list .entry)))) (now (buf .exit)) r ⌝ }
+// The routes of a list that no refusal met.
+fn put_routes(buf: &mut [u8], at: usize, list: &[u8], host: &[u8], port: u16) -> usize
+    ensures { λ r. ⌜ Wrote (now (buf .entry)) at (routesBytes (now (host .entry)) port (records (now (list .entry)))) (now (buf .exit)) r ⌝ }
 {
     let mut place = put_nothing(buf, at);
     let mut from: usize = 0;
     loop {
         match script::record_at(list, from) {
-            Found::Cut => {
-                return place;
-            }
-            Found::End => {
+            Found::Cut | Found::End => {
                 return place;
             }
             Found::Record { kind, start, len } => {
                 let next = start + len;
                 let payload = &list[start..next];
-                place = put_item(buf, place, kind, payload, host, port);
+                place = put_route(buf, place, kind, payload, host, port);
+                from = next;
+            }
+        }
+    }
+}
+
+// The features of a list that no refusal met.
+fn put_features(buf: &mut [u8], at: usize, list: &[u8]) -> usize
+    ensures { λ r. ⌜ Wrote (now (buf .entry)) at (featuresBytes (records (now (list .entry)))) (now (buf .exit)) r ⌝ }
+{
+    let mut place = put_nothing(buf, at);
+    let mut from: usize = 0;
+    loop {
+        match script::record_at(list, from) {
+            Found::Cut | Found::End => {
+                return place;
+            }
+            Found::Record { start, len, .. } => {
+                let next = start + len;
+                let payload = &list[start..next];
+                place = put_feature(buf, place, payload);
                 from = next;
             }
         }
@@ -148,7 +163,7 @@ pub(crate) fn put_feature_ext_ack(buf: &mut [u8], at: usize, list: &[u8]) -> usi
     ensures { λ r. ⌜ Wrote (now (buf .entry)) at (featureExtAck (records (now (list .entry)))) (now (buf .exit)) r ⌝ }
 {
     let a = wire::put_u8(buf, at, FEATUREEXTACK);
-    let b = put_list(buf, a, list, b"", 0);
+    let b = put_features(buf, a, list);
     wire::put_u8(buf, b, FEATURE_EXT_TERMINATOR)
 }
 
@@ -165,13 +180,13 @@ fn put_info_option(buf: &mut [u8], at: usize, id: u8, size: usize, offset: usize
 fn put_info_head(buf: &mut [u8], at: usize, sts: usize, spn: usize) -> usize
     ensures { λ r. ⌜ Wrote (now (buf .entry)) at (flat (word 1 0xEE ∷ word 4 (22 + sts + spn) ∷ infoOptions sts spn [])) (now (buf .exit)) r ⌝ }
 {
-    let behind_url = 22 + sts % 0x1_0000_0000;
-    let size = behind_url + spn % 0x1_0000_0000;
+    let after_url = 22 + sts % 0x1_0000_0000;
+    let size = after_url + spn % 0x1_0000_0000;
     let a = wire::put_u8(buf, at, FEDAUTHINFO);
     let b = wire::put_u32_le(buf, a, (size % 0x1_0000_0000) as u32);
     let c = wire::put_u32_le(buf, b, 2);
     let d = put_info_option(buf, c, STSURL, sts, 22);
-    put_info_option(buf, d, SPN, spn, behind_url)
+    put_info_option(buf, d, SPN, spn, after_url)
 }
 
 pub(crate) fn put_fedauth_info(buf: &mut [u8], at: usize, sts_url: &[u8], spn: &[u8]) -> usize
@@ -224,21 +239,20 @@ fn put_login_ack(buf: &mut [u8], at: usize, sent: bool) -> usize
     put_nothing(buf, at)
 }
 
-// From here on an acknowledgement of enhanced routing stands for none.
-pub(crate) const NO_ACK: u16 = 256;
-
 // The acknowledgement of enhanced routing, where it is sent.
-fn put_routing_ack(buf: &mut [u8], at: usize, sent: bool, ack: u16) -> usize
-    ensures { λ r. ⌜ Wrote (now (buf .entry)) at (routingAck sent ack) (now (buf .exit)) r ⌝ }
+fn put_routing_ack(buf: &mut [u8], at: usize, sent: bool, ack: Acknowledgement) -> usize
+    ensures { λ r. ⌜ Wrote (now (buf .entry)) at (cond sent (routingAck ack) []) (now (buf .exit)) r ⌝ }
 {
     if !sent {
         return put_nothing(buf, at);
     }
-    if NO_ACK <= ack {
-        return put_nothing(buf, at);
+    match ack {
+        Acknowledgement::IsEnabled(enabled) => {
+            let features = [2, 0, 0, 0, 0x13, 0, 0x0F, enabled];
+            put_feature_ext_ack(buf, at, &features)
+        }
+        Acknowledgement::Missing => put_nothing(buf, at),
     }
-    let features = [2, 0, 0, 0, 0x13, 0, 0x0F, ack as u8];
-    put_feature_ext_ack(buf, at, &features)
 }
 
 // The tokens of a login that is routed.
@@ -249,14 +263,14 @@ pub(crate) fn put_routing_tokens(
     port: u16,
     routes: &[u8],
     login_ack: bool,
-    ack: u16,
+    ack: Acknowledgement,
     ack_before_routing: bool,
 ) -> usize
     ensures { λ r. ⌜ Wrote (now (buf .entry)) at (routingTokens (now (host .entry)) port (records (now (routes .entry))) «login_ack» ack «ack_before_routing») (now (buf .exit)) r ⌝ }
 {
     let a = put_login_ack(buf, at, login_ack);
     let b = put_routing_ack(buf, a, ack_before_routing, ack);
-    let c = put_list(buf, b, routes, host, port);
+    let c = put_routes(buf, b, routes, host, port);
     let d = put_routing_ack(buf, c, !ack_before_routing, ack);
     token::put_done(buf, d, 0, 0)
 }

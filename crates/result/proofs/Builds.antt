@@ -6,7 +6,7 @@ use Prim.Native.Nat.{ℕ, _+_, _%_, _≤_, _<_}
 use native.Mathlib.Omega.{arith}
 use lib.Dec.{eqb}
 use lib.ListN.{length}
-use borrow.Author.Tests.{eq-eqb, lt-ltb, le-ltb, le-leb}
+use borrow.Author.Tests.{eq-eqb, eqb-true, lt-ltb, le-ltb, le-leb}
 use Rattle.wire.specs.Be.{be}
 use Rattle.wire.specs.Over.{Wrote, overwrite}
 use Rattle.wire.proofs.Le.{le-mod}
@@ -14,11 +14,15 @@ use Rattle.wire.proofs.Over.{then}
 use Rattle.packet.specs.Reply.{packetOf, replyHeader}
 use Rattle.packet.proofs.Sizes.{length-packet}
 use Rattle.result.specs.declared.Built.the-variants.{Written, Refused}
-use Rattle.result.specs.declared.Measure.the-variants as measure
-use Rattle.result.specs.Emission.{pieces, bytesIn, replyOf}
-use Rattle.result.specs.Refusal.{refusalOf, builtOf, bufferOf}
-use Rattle.result.specs.declared.Room.the-variants.{Bytes, Denied}
-use Rattle.result.specs.Room.{measureOf, isRoom}
+use Rattle.emission.specs.declared.Measure.the-variants as measure
+use Rattle.emission.specs.Emission.{pieces, bytesIn, replyOf}
+use Rattle.emission.specs.Walk.{walked}
+use Rattle.emission.specs.Refusal.{refusalOf}
+use Rattle.result.specs.Built.{builtOf, bufferOf}
+use Rattle.emission.proofs.BySets.{by-sets, no-verdict}
+use Rattle.result.specs.declared.Room.the-variants as room
+use Rattle.emission.specs.Length.{measureOf}
+use Rattle.result.specs.Room.{isRoom}
 use Rattle.wire.proofs.Cases.{by-test}
 
 module _ (s : List ℕ) (buf : List ℕ) where
@@ -32,7 +36,7 @@ module _ (s : List ℕ) (buf : List ℕ) where
     unfolding measureOf
     number-is = let g = rw is-refused at e in cc
 
-    pub room-refused : isRoom s (Denied f) ≡ true
+    pub room-refused : isRoom s (room.Refused f) ≡ true
     room-refused = rw (is-refused, number-is, eq-eqb f f refl)
 
     pub refused-answer : Refused f ≡ builtOf s (length buf)
@@ -53,7 +57,7 @@ module _ (s : List ℕ) (buf : List ℕ) where
     unfolding measureOf
     size-is = let g = rw is-accepted at e in cc
 
-    pub room-size : isRoom s (Bytes n) ≡ true
+    pub room-size : isRoom s (room.Bytes n) ≡ true
     room-size = rw (is-accepted, size-is, le-leb n n (omega arith), le-leb n (n + 32) (omega arith))
 
     pub short-answer : length buf < n → Refused 20 ≡ builtOf s (length buf)
@@ -81,6 +85,6 @@ module _ (s : List ℕ) (buf : List ℕ) where
         header-is′ : n ≡ 8 + length (bytesIn (pieces s)) → replyHeader (n % 65536) ++ bytesIn (pieces s) ≡ replyHeader (8 + length (bytesIn (pieces s))) ++ bytesIn (pieces s)
         header-is′ l = ap (λ (x : List ℕ). x ++ bytesIn (pieces s)) (header-is ∙ ap replyHeader l)
 
-    pub written-buffer : {m k : List ℕ} {at to : ℕ} → n ≤ length buf → Wrote buf 0 (replyHeader (n % 65536)) m at → Wrote m at (bytesIn (pieces s)) k to → k ≡ bufferOf s buf
+    pub written-buffer : {m k : List ℕ} {at to : ℕ} → n ≤ length buf → Wrote buf 0 (replyHeader (n % 65536)) m at → Wrote m at (bytesIn (walked s)) k to → k ≡ bufferOf s buf
     unfolding bufferOf
-    written-buffer h w v = rw (← written-answer h) (then w v .0 ∙ ap (overwrite buf 0) reply-is)
+    written-buffer h w v = rw (← written-answer h) (then w (rw (← by-sets s (no-verdict s (eqb-true (refusalOf s) 0 is-accepted))) at v) .0 ∙ ap (overwrite buf 0) reply-is)

@@ -1,8 +1,2 @@
-pub mod Sizes
-pub mod Aheads
-pub mod Turns
-pub mod Values
-pub mod Walks
-pub mod Replies
 pub mod Writes
 pub mod Builds

@@ -1,6 +1,6 @@
 -- A turn of the loops that write: what is still to be written, and one record less of it. Assumes nothing.
 use mathlib.Core.Path.{_≡_, refl, sym, ap, _∙_}
-use mathlib.Core.List.{List, [], _∷_, _++_, append-assoc, append-nil}
+use mathlib.Core.List.{List, [], _∷_, _++_, flatMap, append-assoc, append-nil}
 use Prim.Native.Nat.{ℕ, _+_, _-_, _≤_}
 use native.Mathlib.Nat.{add-sub-cancel-left}
 use native.Mathlib.Omega.{arith}
@@ -10,14 +10,15 @@ use Rattle.wire.specs.Le.{le}
 use Rattle.wire.specs.Over.{Wrote, overwrite}
 use Rattle.wire.specs.Fields.{word, raw, flat}
 use Rattle.wire.proofs.Over.{then, wrote-as, length-over}
-use Rattle.token.specs.Tokens.{Token, metadata, cell, Sent, long, joined, bytesOf, putChunks}
+use Rattle.token.specs.Tokens.{Token, metadata, cell, EncodedCell, long, joined, tokenBytes, putChunks}
 use Rattle.script.specs.declared.Found.the-variants.{Record, Cut, End}
 use Rattle.script.specs.Records.{records, recordAt}
 use Rattle.script.proofs.Walk.{turn, cuts, ends}
-use Rattle.result.specs.Runs.{ahead}
-use Rattle.result.specs.Emission.{Piece, told, classified, columnToken, columnPieces, piecesOf, rowsAfter, emitFrom, bytesIn, doneToken, lastStatus}
-use Rattle.result.specs.Inner.{GoesOn}
-use Rattle.result.proofs.Sizes.{bytes-none, bytes-told, bytes-classified, bytes-cat}
+use Rattle.script.specs.Runs.{ahead}
+use Rattle.emission.specs.Emission.{Piece, tokenPiece, classificationPiece, columnPiece, columnPieces, bytesIn, doneToken, lastStatus}
+use Rattle.emission.specs.Walk.{piecesOf, rowsAfter, emitFrom}
+use Rattle.emission.specs.Inner.{GoesOn}
+use Rattle.emission.proofs.Sizes.{bytes-none, bytes-told, bytes-classified, bytes-cat}
 
 -- With xs still to be written at the place to of the buffer m, ys are written at the place at of the buffer l: whoever
 -- writes xs there has written ys here
@@ -45,31 +46,19 @@ place-in {l} {m} {at} {xs = xs} w =
     omega (arith, w .1 .place)
 
 -- one token, and two
-pub put-one : (t : Token Sent) {l m : List ℕ} {at to : ℕ} → Wrote l at (bytesOf t) m to → Wrote l at (bytesIn (told t ∷ [])) m to
-put-one t w = wrote-as w (sym (bytes-told t [] ∙ rw (bytes-none, append-nil (bytesOf t))))
+pub put-one : (t : Token EncodedCell) {l m : List ℕ} {at to : ℕ} → Wrote l at (tokenBytes t) m to → Wrote l at (bytesIn (tokenPiece t ∷ [])) m to
+put-one t w = wrote-as w (sym (bytes-told t [] ∙ rw (bytes-none, append-nil (tokenBytes t))))
 
-pub put-two : (t u : Token Sent) {l m n : List ℕ} {at to end : ℕ} → Wrote l at (bytesOf t) m to → Wrote m to (bytesOf u) n end → Wrote l at (bytesIn (told t ∷ told u ∷ [])) n end
-put-two t u w v = wrote-as (then w (put-one u v)) (sym (bytes-told t (told u ∷ [])))
+pub put-two : (t u : Token EncodedCell) {l m n : List ℕ} {at to end : ℕ} → Wrote l at (tokenBytes t) m to → Wrote m to (tokenBytes u) n end → Wrote l at (bytesIn (tokenPiece t ∷ tokenPiece u ∷ [])) n end
+put-two t u w v = wrote-as (then w (put-one u v)) (sym (bytes-told t (tokenPiece u ∷ [])))
 
 -- ---- columns and chunks
 
 module _ (s : List ℕ) (at : ℕ) where
-  -- the records of a kind that stand next: one more, or none
+  -- one more of the records of a kind that stand next
   ahead-more : (k st n : ℕ) → recordAt s at ≡ Record k st n → ahead k (records (drop at s)) ≡ take (st + n - st) (drop st s) ∷ ahead k (records (drop (st + n) s))
   unfolding ahead
   ahead-more k st n e = rw (turn s at e, eq-eqb k k refl, add-sub-cancel-left st n)
-
-  pub ahead-other : (k : ℕ) {j st n : ℕ} → recordAt s at ≡ Record j st n → (j ≡ k → ⊥) → ahead k (records (drop at s)) ≡ []
-  unfolding ahead
-  ahead-other k e f = rw (turn s at e, ne-eqb _ _ f)
-
-  pub ahead-cut : (k : ℕ) → recordAt s at ≡ Cut → ahead k (records (drop at s)) ≡ []
-  unfolding ahead
-  ahead-cut k e = rw (cuts s at e)
-
-  pub ahead-end : (k : ℕ) → recordAt s at ≡ End → ahead k (records (drop at s)) ≡ []
-  unfolding ahead
-  ahead-end k e = rw (ends s at e)
 
   abbrev pub columnsLeft : List ℕ
   columnsLeft = bytesIn (columnPieces (ahead 2 (records (drop at s))))
@@ -78,12 +67,14 @@ module _ (s : List ℕ) (at : ℕ) where
   chunksLeft = flat (putChunks (ahead 6 (records (drop at s))) [])
 
   pub columns-more : (st n : ℕ) → recordAt s at ≡ Record 2 st n
-      → columnsLeft ≡ bytesOf (columnToken (take (st + n - st) (drop st s))) ++ bytesIn (columnPieces (ahead 2 (records (drop (st + n) s))))
+      → columnsLeft ≡ bytesIn (columnPiece (take (st + n - st) (drop st s))) ++ bytesIn (columnPieces (ahead 2 (records (drop (st + n) s))))
+  unfolding flatMap
   columns-more st n e =
       ap (λ (ps : List (List ℕ)). bytesIn (columnPieces ps)) (ahead-more 2 st n e)
-      ∙ bytes-told (columnToken (take (st + n - st) (drop st s))) (columnPieces (ahead 2 (records (drop (st + n) s))))
+      ∙ bytes-cat (columnPiece (take (st + n - st) (drop st s))) (columnPieces (ahead 2 (records (drop (st + n) s))))
 
   pub columns-none : ahead 2 (records (drop at s)) ≡ [] → columnsLeft ≡ []
+  unfolding flatMap
   columns-none e = ap (λ (ps : List (List ℕ)). bytesIn (columnPieces ps)) e ∙ bytes-none
 
   pub chunks-more : (st n : ℕ) → recordAt s at ≡ Record 6 st n
@@ -102,21 +93,21 @@ module _ (s : List ℕ) (at : ℕ) where
 -- ---- sets and cells
 
 -- the beginning of a set
-pub put-begins : (class : List ℕ) (cs : List (List ℕ)) {l m n k : List ℕ} {at a b to : ℕ} → Wrote l at (bytesOf (metadata (length cs))) m a → Wrote m a (bytesIn (columnPieces cs)) n b → Wrote n b class k to
-    → Wrote l at (bytesIn (told (metadata (length cs)) ∷ columnPieces cs ++ (classified class ∷ []))) k to
+pub put-begins : (class : List ℕ) (cs : List (List ℕ)) {l m n k : List ℕ} {at a b to : ℕ} → Wrote l at (tokenBytes (metadata (length cs))) m a → Wrote m a (bytesIn (columnPieces cs)) n b → Wrote n b class k to
+    → Wrote l at (bytesIn (tokenPiece (metadata (length cs)) ∷ columnPieces cs ++ (classificationPiece class ∷ []))) k to
 put-begins class cs w v u =
     wrote-as (then w (then v u))
-    (sym (bytes-told (metadata (length cs)) (columnPieces cs ++ (classified class ∷ []))
-    ∙ rw (bytes-cat (columnPieces cs) (classified class ∷ []), bytes-classified class [], bytes-none, append-nil class)))
+    (sym (bytes-told (metadata (length cs)) (columnPieces cs ++ (classificationPiece class ∷ []))
+    ∙ rw (bytes-cat (columnPieces cs) (classificationPiece class ∷ []), bytes-classified class [], bytes-none, append-nil class)))
 
 -- a cell in chunks
-pub put-long : (cs : List (List ℕ)) {l m n : List ℕ} {at a to : ℕ} → Wrote l at (le 8 (length (joined cs))) m a → Wrote m a (flat (putChunks cs [])) n to → Wrote l at (bytesOf (cell (long cs))) n to
-unfolding bytesOf flat
+pub put-long : (cs : List (List ℕ)) {l m n : List ℕ} {at a to : ℕ} → Wrote l at (le 8 (length (joined cs))) m a → Wrote m a (flat (putChunks cs [])) n to → Wrote l at (tokenBytes (cell (long cs))) n to
+unfolding tokenBytes flat
 put-long cs w v = then w v
 
 -- a token before pieces
-pub put-behind : (t : Token Sent) (ps : List Piece) {l m n : List ℕ} {at to end : ℕ} → Wrote l at (bytesOf t) m to → Wrote m to (bytesIn ps) n end → Wrote l at (bytesIn (told t ∷ ps)) n end
-put-behind t ps w v = wrote-as (then w v) (sym (bytes-told t ps))
+pub put-before : (t : Token EncodedCell) (ps : List Piece) {l m n : List ℕ} {at to end : ℕ} → Wrote l at (tokenBytes t) m to → Wrote m to (bytesIn ps) n end → Wrote l at (bytesIn (tokenPiece t ∷ ps)) n end
+put-before t ps w v = wrote-as (then w v) (sym (bytes-told t ps))
 
 -- pieces before pieces
 pub put-pieces : (ps qs : List Piece) {l m n : List ℕ} {at to end : ℕ} → Wrote l at (bytesIn ps) m to → Wrote m to (bytesIn qs) n end → Wrote l at (bytesIn (ps ++ qs)) n end
@@ -140,13 +131,13 @@ module _ (s : List ℕ) (at rows : ℕ) where
       (bytes-cat (piecesOf rows k (take n (drop st s)) (records (drop (st + n) s))) (emitFrom (rowsAfter rows k) (records (drop (st + n) s)))
       ∙ ap (λ (ps : List Piece). bytesIn (piecesOf rows k (take n (drop st s)) (records (drop (st + n) s))) ++ bytesIn ps) (g .same (rowsAfter rows k)))
 
-  last-is : emitFrom rows (records (drop at s)) ≡ told (doneToken lastStatus rows) ∷ [] → recordsLeft ≡ bytesOf (doneToken lastStatus rows)
-  last-is e = ap bytesIn e ∙ bytes-told (doneToken lastStatus rows) [] ∙ rw (bytes-none, append-nil (bytesOf (doneToken lastStatus rows)))
+  last-is : emitFrom rows (records (drop at s)) ≡ tokenPiece (doneToken lastStatus rows) ∷ [] → recordsLeft ≡ tokenBytes (doneToken lastStatus rows)
+  last-is e = ap bytesIn e ∙ bytes-told (doneToken lastStatus rows) [] ∙ rw (bytes-none, append-nil (tokenBytes (doneToken lastStatus rows)))
 
-  pub records-cut : recordAt s at ≡ Cut → recordsLeft ≡ bytesOf (doneToken lastStatus rows)
+  pub records-cut : recordAt s at ≡ Cut → recordsLeft ≡ tokenBytes (doneToken lastStatus rows)
   unfolding emitFrom
   records-cut e = last-is (rw (cuts s at e))
 
-  pub records-end : recordAt s at ≡ End → recordsLeft ≡ bytesOf (doneToken lastStatus rows)
+  pub records-end : recordAt s at ≡ End → recordsLeft ≡ tokenBytes (doneToken lastStatus rows)
   unfolding emitFrom
   records-end e = last-is (rw (ends s at e))

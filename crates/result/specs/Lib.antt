@@ -1,5 +1,3 @@
-pub mod Runs
-pub mod Emission
-pub mod Refusal
+pub mod Built
 pub mod Room
 pub mod Inner

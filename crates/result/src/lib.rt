@@ -1,52 +1,35 @@
-// The reply of a script (document 01, 'The reply packet'): `build_query_results` of the Rust, with its narrowings, the room
-// estimate and the fit check. Three passes over the records: the script's verdict, faults and size of what is emitted, and
-// the writing, which comes after every refusal is ruled out.
+// The reply of a script (document 01, 'The reply packet'): `build_query_results` of the Rust, with its narrowings, and the room
+// estimate. The writing pass is the third over the records: it comes after every refusal is ruled out by emission's two.
+use emission::ErrorAt;
+use emission::Measure;
+use refusals::BUFFER_TOO_SHORT;
 use script::Found;
 use token::ColumnValue;
-use wire::Part;
+use token::KnownColumnValue;
+use token::KnownDataType;
 ghost use mathlib.Core.Path.{_≡_};
-ghost use mathlib.Core.Bool.{cond, true, _||_};
-ghost use Prim.Native.Nat.{_+_, _^_, _≤_, _<_};
-ghost use lib.Dec.{eqb};
-ghost use lib.ListN.{length, take, drop};
-ghost use Rattle.wire.specs.Le.{leAt};
-ghost use Rattle.token.specs.Types.{dataTypeOf, typeCode, collationSize};
-ghost use Rattle.token.specs.Tokens.{bytesOf};
-ghost use mathlib.Core.List.{[], _∷_, _++_};
-ghost use Rattle.script.specs.Records.{records};
-ghost use Rattle.token.specs.Tokens.{cell, long};
-ghost use Rattle.result.specs.Runs.{ahead};
-ghost use Rattle.result.specs.Emission.{told, columnToken, infoToken, cellOf, setPieces, piecesOf, rowsAfter, emitFrom, errorIn, errorPieces, leadingStatus, setsOf, pieces, bytesIn, columnPieces};
+ghost use mathlib.Core.Bool.{true};
+ghost use mathlib.Core.List.{[]};
 ghost use mathlib.Core.Option.{some};
-ghost use Rattle.wire.specs.Over.{overwrite, PlaceBehind};
+ghost use Prim.Native.Nat.{_+_, _^_, _≤_, _<_};
+ghost use lib.ListN.{length, drop};
 ghost use Rattle.wire.specs.Fields.{flat};
-ghost use Rattle.token.specs.Tokens.{putChunks};
-ghost use Rattle.result.specs.Room.{measureOf, isRoom};
-ghost use Rattle.result.specs.Refusal.{tokenFault, longName, builtOf, bufferOf};
-ghost use Rattle.result.specs.Inner.{capped, recordSize, recordFault, longerRun, Ahead, Turned, plainTurn, Sizes, errorFound, behindDone, Put};
+ghost use Rattle.wire.specs.Over.{overwrite, PlaceAfter};
+ghost use Rattle.script.specs.Records.{records};
+ghost use Rattle.script.specs.Runs.{ahead};
+ghost use Rattle.token.specs.Tokens.{cell, long, tokenBytes, putChunks};
+ghost use Rattle.emission.specs.Emission.{infoToken, valueCell, bytesIn, columnPiece, columnPieces, cellPieces};
+ghost use Rattle.emission.specs.Walk.{beginPieces, piecesOf, rowsAfter, emitFrom, leadPieces, setsOf, walked};
+ghost use Rattle.emission.specs.Runs.{errorFound};
+ghost use Rattle.result.specs.Built.{builtOf, bufferOf};
+ghost use Rattle.result.specs.Room.{isRoom};
+ghost use Rattle.result.specs.Inner.{Put};
 
 // What a builder answers: the bytes written, or the refusal's number.
 pub enum Built {
     Written(usize),
     Refused(u8),
 }
-
-// A script's size: its reply's length, or the refusal's number.
-pub enum Measure {
-    Size(usize),
-    Refused(u8),
-}
-
-// Refusals of what is emitted. 0 stands for none.
-const NONE: u8 = script::NONE;
-// A chunk is empty.
-pub const EMPTY_CHUNK: u8 = 15;
-// A column, server or procedure name is over 255 units.
-pub const LONG_NAME: u8 = 16;
-// A result is over 65,535 bytes.
-pub const TOO_LONG: u8 = 17;
-// The lent buffer is too short.
-pub const NO_ROOM: u8 = 20;
 
 // The status of each kind of DONE.
 const MORE: u16 = 0x0001;
@@ -57,459 +40,29 @@ const LEADING: u16 = 0x0003;
 
 const TERMINAL: u16 = 0x0002;
 
-// The records of one kind that stand next at a place: how many, the bytes of their payloads, what they add to a reply as
-// far as it matters, the first fault among them, and the place behind them.
-struct Run {
-    count: usize,
-    bytes: usize,
-    size: usize,
-    fault: u8,
-    next: usize,
-}
-
-// What a record emits: its fault, its size as far as it matters, and the place where the walk goes on.
-struct Turn {
-    fault: u8,
-    size: usize,
-    next: usize,
-}
-
-struct Sized {
-    fault: u8,
-    size: usize,
-}
-
-// A size and more, up to 65,536.
-fn grown(size: usize, more: usize) -> usize
-    ensures { λ r. ⌜ r ≡ capped (size + more) ⌝ }
-{
-    if size >= 65536 {
-        return 65536;
-    }
-    if more >= 65536 {
-        return 65536;
-    }
-    if size + more > 65536 {
-        return 65536;
-    }
-    size + more
-}
-
-// Of two refusals the first that is one.
-fn first_fault(a: u8, b: u8) -> u8
-    ensures { λ r. ⌜ r ≡ cond (eqb a 0) b a ⌝ }
-{
-    if a == NONE { b } else { a }
-}
-
-// A column's collation, where its type has one.
-fn collation(p: &[u8]) -> &[u8]
-    ensures { λ r. ⌜ now r ≡ take (collationSize (typeCode (dataTypeOf (leAt 1 (now (p .entry)))))) (drop 1 (now (p .entry))) ⌝ }
-{
-    let len = token::collation_size(token::tds_type_code(token::data_type_of(wire::get_u8(p, 0))));
-    wire::part_of(p, Part { start: 1, len })
-}
-
-// What a column adds to a reply.
-fn column_size(p: &[u8]) -> usize
-    ensures { λ r. ⌜ r ≡ capped (length (bytesOf (columnToken (now (p .entry))))) ⌝ }
-{
-    let code = token::tds_type_code(token::data_type_of(wire::get_u8(p, 0)));
-    let width = token::length_width(code) as usize;
-    let collated = grown(collation(p).len(), 8 + width);
-    grown(collated, script::behind(p, 6).len())
-}
-
-// Whether a name is over 255 units.
-fn is_long_name(name: &[u8]) -> bool
-    ensures { λ r. ⌜ r ≡ longName (now (name .entry)) ⌝ }
-{
-    255 < name.len() / 2
-}
-
-// The fault of an info's names, or none.
-fn names_fault(server: &[u8], procedure: &[u8]) -> u8
-    ensures { λ r. ⌜ r ≡ cond (longName (now (server .entry)) || longName (now (procedure .entry))) 16 0 ⌝ }
-{
-    if is_long_name(server) | is_long_name(procedure) {
-        return LONG_NAME;
-    }
-    NONE
-}
-
-// A column's fault, or none.
-fn column_fault(p: &[u8]) -> u8
-    ensures { λ r. ⌜ r ≡ tokenFault (columnToken (now (p .entry))) ⌝ }
-{
-    if is_long_name(script::behind(p, 6)) {
-        LONG_NAME
-    } else {
-        NONE
-    }
-}
-
-// What a column or a chunk adds to a reply, and its fault.
-fn record_size(kind: u16, p: &[u8]) -> usize
-    ensures { λ r. ⌜ r ≡ capped (recordSize kind (now (p .entry))) ⌝ }
-{
-    if kind == script::COLUMN {
-        return column_size(p);
-    }
-    grown(4, p.len())
-}
-
-fn record_fault(kind: u16, p: &[u8]) -> u8
-    ensures { λ r. ⌜ r ≡ recordFault kind (now (p .entry)) ⌝ }
-{
-    if kind == script::COLUMN {
-        return column_fault(p);
-    }
-    if p.len() == 0 { EMPTY_CHUNK } else { NONE }
-}
-
-// The records of a kind that stand next at a place.
-fn run_at(s: &[u8], at: usize, kind: u16) -> Run
-    requires { ⌜ at ≤ length (now s) ⌝ }
-    ensures { λ r. ⌜ Ahead (now (s .entry)) at kind r ⌝ }
-{
-    let mut run = Run {
-        count: 0,
-        bytes: 0,
-        size: 0,
-        fault: NONE,
-        next: at,
-    };
-    loop {
-        let place = run.next;
-        match script::record_at(s, place) {
-            Found::Record {
-                kind: k,
-                start,
-                len,
-            } => {
-                if k != kind {
-                    return run;
-                }
-                let after = start + len;
-                run = longer(run, kind, &s[start..after], after);
-            }
-            Found::Cut => {
-                return run;
-            }
-            Found::End => {
-                return run;
-            }
-        }
-    }
-}
-
-// A run with one record more.
-fn longer(run: Run, kind: u16, p: &[u8], next: usize) -> Run
-    requires { ⌜ (run .count + 1 < 2 ^ 64) × (run .bytes + length (now p) < 2 ^ 64) ⌝ }
-    ensures { λ r. ⌜ r ≡ longerRun run kind (now (p .entry)) next ⌝ }
-{
-    Run {
-        count: run.count + 1,
-        bytes: run.bytes + p.len(),
-        size: grown(run.size, record_size(kind, p)),
-        fault: first_fault(run.fault, record_fault(kind, p)),
-        next,
-    }
-}
-
-// The error of a set, or none.
-enum ErrorAt {
-    At(Part),
-    Missing,
-}
-
-// The error of a kind in the set that goes on at a place, behind its columns.
-fn error_in(s: &[u8], at: usize, kind: u16) -> ErrorAt
-    requires { ⌜ at ≤ length (now s) ⌝ }
-    ensures { λ r. ⌜ errorFound (now (s .entry)) r ≡ errorIn kind (records (drop at (now (s .entry)))) ⌝ }
-{
-    let mut place = at;
-    loop {
-        match script::record_at(s, place) {
-            Found::Record {
-                kind: k,
-                start,
-                len,
-            } => {
-                if k == kind {
-                    return ErrorAt::At(Part { start, len });
-                }
-                if !((k == script::COLUMN) | (k == script::LEADING_ERROR)) {
-                    return ErrorAt::Missing;
-                }
-                place = start + len;
-            }
-            Found::Cut => {
-                return ErrorAt::Missing;
-            }
-            Found::End => {
-                return ErrorAt::Missing;
-            }
-        }
-    }
-}
-
-// What an error and its DONE add to a reply.
-fn error_size(p: &[u8]) -> usize
-    ensures { λ r. ⌜ r ≡ capped (30 + length (drop 5 (now (p .entry)))) ⌝ }
-{
-    grown(30, script::behind(p, 5).len())
-}
-
-// The beginning of a set whose classification has len bytes: COLMETADATA, columns, classification.
-fn set_turn(s: &[u8], class: &[u8], next: usize) -> Turn
-    requires { ⌜ next ≤ length (now s) ⌝ }
-    ensures { λ r. ⌜ Turned (setPieces (now (class .entry)) (records (drop next (now (s .entry))))) (now (s .entry)) next r ⌝ }
-{
-    let run = run_at(s, next, script::COLUMN);
-    Turn {
-        fault: run.fault,
-        size: grown(grown(3, class.len()), run.size),
-        next: run.next,
-    }
-}
-
-// An info.
-fn info_turn(s: &[u8], p: &[u8], next: usize) -> Turn
-    requires { ⌜ next ≤ length (now s) ⌝ }
-    ensures { λ r. ⌜ Turned (told (infoToken (now (p .entry))) ∷ []) (now (s .entry)) next r ⌝ }
-{
-    let server = script::info_server(p);
-    let procedure = script::info_procedure(p);
-    let texts = grown(
-        grown(script::info_message(p).len(), server.len()),
-        procedure.len(),
-    );
-    let fault = names_fault(server, procedure);
-    Turn {
-        fault,
-        size: grown(17, texts),
-        next,
-    }
-}
-
-// A cell in chunks.
-fn chunked_turn(s: &[u8], next: usize) -> Turn
-    requires { ⌜ next ≤ length (now s) ⌝ }
-    ensures { λ r. ⌜ Turned (told (cell (long (ahead 6 (records (drop next (now (s .entry))))))) ∷ []) (now (s .entry)) next r ⌝ }
-{
-    let run = run_at(s, next, script::CHUNK);
-    Turn {
-        fault: run.fault,
-        size: grown(12, run.size),
-        next: run.next,
-    }
-}
-
-// A record that has no fault and takes no other with it.
-fn plain_turn(size: usize, next: usize) -> Turn
-    ensures { λ r. ⌜ r ≡ plainTurn size next ⌝ }
-{
-    Turn {
-        fault: NONE,
-        size,
-        next,
-    }
-}
-
-// A cell, with its chunks where it has them.
-fn cell_turn(s: &[u8], p: &[u8], next: usize) -> Turn
-    requires { ⌜ next ≤ length (now s) ⌝ }
-    ensures { λ r. ⌜ Turned (told (cell (cellOf (now (p .entry)) (ahead 6 (records (drop next (now (s .entry))))))) ∷ []) (now (s .entry)) next r ⌝ }
-{
-    let value = token::column_value_of(wire::get_u8(p, 0));
-    match value {
-        ColumnValue::TinyInt => plain_turn(2, next),
-        ColumnValue::SmallInt => plain_turn(3, next),
-        ColumnValue::Int => plain_turn(5, next),
-        ColumnValue::BigInt => plain_turn(9, next),
-        ColumnValue::NVarChar => plain_turn(grown(2, script::behind(p, 1).len()), next),
-        ColumnValue::NVarCharMax => chunked_turn(s, next),
-        ColumnValue::NVarCharMaxNull => plain_turn(8, next),
-        ColumnValue::VarCharMax => chunked_turn(s, next),
-        ColumnValue::VarBinaryMax => chunked_turn(s, next),
-        ColumnValue::Null => plain_turn(1, next),
-    }
-}
-
-// What a record behind the first set's emits.
-fn turn_at(s: &[u8], kind: u16, p: &[u8], next: usize) -> Turn
-    requires { ⌜ next ≤ length (now s) ⌝ }
-    ensures { λ r. ⌜ Turned (piecesOf 0 kind (now (p .entry)) (records (drop next (now (s .entry))))) (now (s .entry)) next r ⌝ }
-{
-    match kind {
-        script::SET => ended_turn(set_turn(s, p, next)),
-        script::INFO => info_turn(s, p, next),
-        script::TRAILING_INFO => info_turn(s, p, next),
-        script::ROW => Turn {
-            fault: NONE,
-            size: 1,
-            next,
-        },
-        script::CELL => cell_turn(s, p, next),
-        _ => Turn {
-            fault: NONE,
-            size: 0,
-            next,
-        },
-    }
-}
-
-// A turn behind the DONE of the set before.
-fn ended_turn(t: Turn) -> Turn
-    ensures { λ r. ⌜ r ≡ behindDone t ⌝ }
-{
-    Turn {
-        fault: t.fault,
-        size: grown(13, t.size),
-        next: t.next,
-    }
-}
-
-// Faults and size of what the records from a place on emit, behind bytes before.
-fn sizes_from(s: &[u8], at: usize, before: usize) -> Sized
-    requires { ⌜ at ≤ length (now s) ⌝ }
-    ensures { λ r. ⌜ Sizes (emitFrom 0 (records (drop at (now (s .entry))))) before r ⌝ }
-{
-    let mut place = at;
-    let mut size = before;
-    loop {
-        match script::record_at(s, place) {
-            Found::Record { kind, start, len } => {
-                let next = start + len;
-                let turn = turn_at(s, kind, &s[start..next], next);
-                if turn.fault != NONE {
-                    return Sized {
-                        fault: turn.fault,
-                        size,
-                    };
-                }
-                size = grown(size, turn.size);
-                place = turn.next;
-            }
-            Found::Cut => {
-                return Sized {
-                    fault: NONE,
-                    size: grown(size, 13),
-                };
-            }
-            Found::End => {
-                return Sized {
-                    fault: NONE,
-                    size: grown(size, 13),
-                };
-            }
-        }
-    }
-}
-
-// Faults and size of the sets of a script whose first set has the classification class and goes on at next, behind bytes before.
-fn sets_size(s: &[u8], class: &[u8], next: usize, before: usize) -> Sized
-    requires { ⌜ next ≤ length (now s) ⌝ }
-    ensures { λ r. ⌜ Sizes (setPieces (now (class .entry)) (records (drop next (now (s .entry)))) ++ emitFrom 0 (records (drop next (now (s .entry))))) before r ⌝ }
-{
-    let turn = set_turn(s, class, next);
-    if turn.fault != NONE {
-        return Sized {
-            fault: turn.fault,
-            size: before,
-        };
-    }
-    let at = turn.next;
-    sizes_from(s, at, grown(before, turn.size))
-}
-
-// What the error of a set, where it has one, and its DONE add to a reply.
-fn lead_size(s: &[u8], error: ErrorAt) -> usize
-    ensures { λ r. ⌜ r ≡ capped (length (bytesIn (errorPieces leadingStatus (errorFound (now (s .entry)) error)))) ⌝ }
-{
-    match error {
-        ErrorAt::At(part) => error_size(wire::part_of(s, part)),
-        ErrorAt::Missing => 0,
-    }
-}
-
-// Faults and size of a reply whose first set has the classification class and goes on at next.
-fn reply_size(s: &[u8], class: &[u8], next: usize) -> Sized
-    requires { ⌜ next ≤ length (now s) ⌝ }
-    ensures { λ r. ⌜ Sizes (setsOf (now (class .entry)) (records (drop next (now (s .entry))))) 8 r ⌝ }
-{
-    match error_in(s, next, script::TERMINAL_ERROR) {
-        ErrorAt::At(part) => Sized {
-            fault: NONE,
-            size: grown(8, error_size(wire::part_of(s, part))),
-        },
-        ErrorAt::Missing => {
-            let lead = lead_size(s, error_in(s, next, script::LEADING_ERROR));
-            sets_size(s, class, next, grown(8, lead))
-        }
-    }
-}
-
-// Faults and size of a script's reply.
-fn emitted_size(s: &[u8]) -> Sized
-    ensures { λ r. ⌜ Sizes (pieces (now (s .entry))) 8 r ⌝ }
-{
-    match script::record_at(s, 0) {
-        Found::Record {
-            kind: _,
-            start,
-            len,
-        } => {
-            let next = start + len;
-            reply_size(s, &s[start..next], next)
-        }
-        Found::Cut => Sized {
-            fault: NONE,
-            size: 8,
-        },
-        Found::End => Sized {
-            fault: NONE,
-            size: 8,
-        },
-    }
-}
-
-// The exact length of a script's reply, or its refusal, 11 to 17: two passes over its records.
-pub fn reply_length(s: &[u8]) -> Measure
-    ensures { λ r. ⌜ r ≡ measureOf (now (s .entry)) ⌝ }
-{
-    let refused = script::verdict(s);
-    if refused != NONE {
-        return Measure::Refused(refused);
-    }
-    let sized = emitted_size(s);
-    if sized.fault != NONE {
-        return Measure::Refused(sized.fault);
-    }
-    if 65535 < sized.size {
-        return Measure::Refused(TOO_LONG);
-    }
-    Measure::Size(sized.size)
-}
-
-// The writing pass: the place behind what was written, and the place where the walk goes on.
+// The writing pass: the place after what was written, and the place where the walk goes on.
 struct Placed {
     place: usize,
     next: usize,
 }
 
 fn put_column(buf: &mut [u8], at: usize, p: &[u8]) -> usize
-    ensures { λ _. ⌜ now (buf .exit) ≡ overwrite (now (buf .entry)) at (bytesOf (columnToken (now (p .entry)))) ⌝ }
-    ensures { λ r. ⌜ PlaceBehind (now (buf .entry)) at (bytesOf (columnToken (now (p .entry)))) r ⌝ }
+    requires { ⌜ at ≤ length (now buf) ⌝ }
+    ensures { λ _. ⌜ now (buf .exit) ≡ overwrite (now (buf .entry)) at (bytesIn (columnPiece (now (p .entry)))) ⌝ }
+    ensures { λ r. ⌜ PlaceAfter (now (buf .entry)) at (bytesIn (columnPiece (now (p .entry)))) r ⌝ }
 {
-    let data_type = token::data_type_of(wire::get_u8(p, 0));
-    token::put_column(buf, at, data_type, collation(p), script::behind(p, 6))
+    match token::data_type_of(wire::get_u8(p, 0)) {
+        KnownDataType::Known(t) => {
+            let collation = emission::collation(t, p);
+            token::put_column(buf, at, t, collation, script::rest_after(p, 6))
+        }
+        KnownDataType::Unknown => at,
+    }
 }
 
 fn put_info(buf: &mut [u8], at: usize, p: &[u8]) -> usize
-    ensures { λ _. ⌜ now (buf .exit) ≡ overwrite (now (buf .entry)) at (bytesOf (infoToken (now (p .entry)))) ⌝ }
-    ensures { λ r. ⌜ PlaceBehind (now (buf .entry)) at (bytesOf (infoToken (now (p .entry)))) r ⌝ }
+    ensures { λ _. ⌜ now (buf .exit) ≡ overwrite (now (buf .entry)) at (tokenBytes (infoToken (now (p .entry)))) ⌝ }
+    ensures { λ r. ⌜ PlaceAfter (now (buf .entry)) at (tokenBytes (infoToken (now (p .entry)))) r ⌝ }
 {
     let number = wire::get_u32_le(p, 0);
     let state = wire::get_u8(p, 4);
@@ -534,8 +87,8 @@ fn put_info(buf: &mut [u8], at: usize, p: &[u8]) -> usize
 
 // An error and its DONE.
 fn put_error(buf: &mut [u8], at: usize, p: &[u8], status: u16) -> usize
-    ensures { λ _. ⌜ now (buf .exit) ≡ overwrite (now (buf .entry)) at (bytesIn (errorPieces status (some (now (p .entry))))) ⌝ }
-    ensures { λ r. ⌜ PlaceBehind (now (buf .entry)) at (bytesIn (errorPieces status (some (now (p .entry))))) r ⌝ }
+    ensures { λ _. ⌜ now (buf .exit) ≡ overwrite (now (buf .entry)) at (bytesIn (leadPieces status (some (now (p .entry))))) ⌝ }
+    ensures { λ r. ⌜ PlaceAfter (now (buf .entry)) at (bytesIn (leadPieces status (some (now (p .entry))))) r ⌝ }
 {
     let number = wire::get_u32_le(p, 0);
     let severity = wire::get_u8(p, 4);
@@ -547,7 +100,7 @@ fn put_error(buf: &mut [u8], at: usize, p: &[u8], status: u16) -> usize
         number,
         1,
         severity,
-        script::behind(p, 5),
+        script::rest_after(p, 5),
         none,
         none,
         1,
@@ -559,7 +112,7 @@ fn put_error(buf: &mut [u8], at: usize, p: &[u8], status: u16) -> usize
 fn put_columns(buf: &mut [u8], at: usize, s: &[u8], from: usize) -> usize
     requires { ⌜ (at ≤ length (now buf)) × (from ≤ length (now s)) ⌝ }
     ensures { λ _. ⌜ now (buf .exit) ≡ overwrite (now (buf .entry)) at (bytesIn (columnPieces (ahead 2 (records (drop from (now (s .entry))))))) ⌝ }
-    ensures { λ r. ⌜ PlaceBehind (now (buf .entry)) at (bytesIn (columnPieces (ahead 2 (records (drop from (now (s .entry))))))) r ⌝ }
+    ensures { λ r. ⌜ PlaceAfter (now (buf .entry)) at (bytesIn (columnPieces (ahead 2 (records (drop from (now (s .entry))))))) r ⌝ }
 {
     let mut to = at;
     let mut place = from;
@@ -573,21 +126,18 @@ fn put_columns(buf: &mut [u8], at: usize, s: &[u8], from: usize) -> usize
                 to = put_column(buf, to, &s[start..next]);
                 place = next;
             }
-            Found::Cut => {
-                return to;
-            }
-            Found::End => {
+            Found::Cut | Found::End => {
                 return to;
             }
         }
     }
 }
 
-// The chunks that stand next in s, and the zero length behind them.
+// The chunks that stand next in s, and the zero length after them.
 fn put_chunks(buf: &mut [u8], at: usize, s: &[u8], from: usize) -> usize
     requires { ⌜ from ≤ length (now s) ⌝ }
     ensures { λ _. ⌜ now (buf .exit) ≡ overwrite (now (buf .entry)) at (flat (putChunks (ahead 6 (records (drop from (now (s .entry))))) [])) ⌝ }
-    ensures { λ r. ⌜ PlaceBehind (now (buf .entry)) at (flat (putChunks (ahead 6 (records (drop from (now (s .entry))))) [])) r ⌝ }
+    ensures { λ r. ⌜ PlaceAfter (now (buf .entry)) at (flat (putChunks (ahead 6 (records (drop from (now (s .entry))))) [])) r ⌝ }
 {
     let mut to = at;
     let mut place = from;
@@ -601,10 +151,7 @@ fn put_chunks(buf: &mut [u8], at: usize, s: &[u8], from: usize) -> usize
                 to = token::put_chunk(buf, to, &s[start..next]);
                 place = next;
             }
-            Found::Cut => {
-                return wire::put_u32_le(buf, to, 0);
-            }
-            Found::End => {
+            Found::Cut | Found::End => {
                 return wire::put_u32_le(buf, to, 0);
             }
         }
@@ -612,14 +159,14 @@ fn put_chunks(buf: &mut [u8], at: usize, s: &[u8], from: usize) -> usize
 }
 
 // The beginning of a set: COLMETADATA, columns, classification.
-fn put_set(buf: &mut [u8], at: usize, s: &[u8], class: &[u8], next: usize) -> Placed
+fn put_set(buf: &mut [u8], at: usize, s: &[u8], classification: &[u8], next: usize) -> Placed
     requires { ⌜ next ≤ length (now s) ⌝ }
-    ensures { λ r. ⌜ Put (now (buf .entry)) at (bytesIn (setPieces (now (class .entry)) (records (drop next (now (s .entry)))))) (now (buf .exit)) (now (s .entry)) next r ⌝ }
+    ensures { λ r. ⌜ Put (now (buf .entry)) at (bytesIn (beginPieces (now (classification .entry)) (records (drop next (now (s .entry)))))) (now (buf .exit)) (now (s .entry)) next r ⌝ }
 {
-    let run = run_at(s, next, script::COLUMN);
+    let run = emission::run_at(s, next, script::COLUMN);
     let a = token::put_colmetadata(buf, at, run.count);
     let b = put_columns(buf, a, s, next);
-    let place = wire::put_slice(buf, b, class);
+    let place = wire::put_slice(buf, b, classification);
     Placed {
         place,
         next: run.next,
@@ -629,9 +176,9 @@ fn put_set(buf: &mut [u8], at: usize, s: &[u8], class: &[u8], next: usize) -> Pl
 // A cell in chunks: their total, the chunks, a zero length.
 fn put_chunked(buf: &mut [u8], at: usize, s: &[u8], next: usize) -> Placed
     requires { ⌜ next ≤ length (now s) ⌝ }
-    ensures { λ r. ⌜ Put (now (buf .entry)) at (bytesOf (cell (long (ahead 6 (records (drop next (now (s .entry)))))))) (now (buf .exit)) (now (s .entry)) next r ⌝ }
+    ensures { λ r. ⌜ Put (now (buf .entry)) at (tokenBytes (cell (long (ahead 6 (records (drop next (now (s .entry)))))))) (now (buf .exit)) (now (s .entry)) next r ⌝ }
 {
-    let run = run_at(s, next, script::CHUNK);
+    let run = emission::run_at(s, next, script::CHUNK);
     let a = wire::put_u64_le(buf, at, run.bytes as u64);
     let place = put_chunks(buf, a, s, next);
     Placed {
@@ -640,12 +187,18 @@ fn put_chunked(buf: &mut [u8], at: usize, s: &[u8], next: usize) -> Placed
     }
 }
 
-// A cell, with its chunks where it has them.
-fn put_cell(buf: &mut [u8], at: usize, s: &[u8], p: &[u8], next: usize) -> Placed
+// A cell of a value, with its chunks where it has them.
+fn put_value(
+    buf: &mut [u8],
+    at: usize,
+    s: &[u8],
+    value: ColumnValue,
+    p: &[u8],
+    next: usize,
+) -> Placed
     requires { ⌜ next ≤ length (now s) ⌝ }
-    ensures { λ r. ⌜ Put (now (buf .entry)) at (bytesOf (cell (cellOf (now (p .entry)) (ahead 6 (records (drop next (now (s .entry)))))))) (now (buf .exit)) (now (s .entry)) next r ⌝ }
+    ensures { λ r. ⌜ Put (now (buf .entry)) at (tokenBytes (cell (valueCell value (drop 1 (now (p .entry))) (ahead 6 (records (drop next (now (s .entry)))))))) (now (buf .exit)) (now (s .entry)) next r ⌝ }
 {
-    let value = token::column_value_of(wire::get_u8(p, 0));
     match value {
         ColumnValue::TinyInt => Placed {
             place: token::put_tinyint(buf, at, wire::get_u8(p, 1)),
@@ -664,16 +217,16 @@ fn put_cell(buf: &mut [u8], at: usize, s: &[u8], p: &[u8], next: usize) -> Place
             next,
         },
         ColumnValue::NVarChar => Placed {
-            place: token::put_nvarchar(buf, at, script::behind(p, 1)),
+            place: token::put_nvarchar(buf, at, script::rest_after(p, 1)),
             next,
         },
-        ColumnValue::NVarCharMax => put_chunked(buf, at, s, next),
+        ColumnValue::NVarCharMax | ColumnValue::VarCharMax | ColumnValue::VarBinaryMax => {
+            put_chunked(buf, at, s, next)
+        }
         ColumnValue::NVarCharMaxNull => Placed {
             place: token::put_plp_null(buf, at),
             next,
         },
-        ColumnValue::VarCharMax => put_chunked(buf, at, s, next),
-        ColumnValue::VarBinaryMax => put_chunked(buf, at, s, next),
         ColumnValue::Null => Placed {
             place: token::put_null(buf, at),
             next,
@@ -681,7 +234,18 @@ fn put_cell(buf: &mut [u8], at: usize, s: &[u8], p: &[u8], next: usize) -> Place
     }
 }
 
-// What a record behind the first set's emits; rows are those of the set so far.
+// A cell.
+fn put_cell(buf: &mut [u8], at: usize, s: &[u8], p: &[u8], next: usize) -> Placed
+    requires { ⌜ (at ≤ length (now buf)) × (next ≤ length (now s)) ⌝ }
+    ensures { λ r. ⌜ Put (now (buf .entry)) at (bytesIn (cellPieces (now (p .entry)) (ahead 6 (records (drop next (now (s .entry))))))) (now (buf .exit)) (now (s .entry)) next r ⌝ }
+{
+    match token::column_value_of(wire::get_u8(p, 0)) {
+        KnownColumnValue::Known(value) => put_value(buf, at, s, value, p, next),
+        KnownColumnValue::Unknown => Placed { place: at, next },
+    }
+}
+
+// What a record after the first set's emits; rows are those of the set so far.
 fn put_turn(
     buf: &mut [u8],
     at: usize,
@@ -716,7 +280,7 @@ fn put_turn(
     }
 }
 
-// The rows of a set behind a record.
+// The rows of a set after a record.
 fn rows_after(rows: u64, kind: u16) -> u64
     requires { ⌜ rows + 1 < 2 ^ 64 ⌝ }
     ensures { λ r. ⌜ (r ≡ rowsAfter rows kind) × (r ≤ rows + 1) ⌝ }
@@ -732,7 +296,7 @@ fn rows_after(rows: u64, kind: u16) -> u64
 fn put_records(buf: &mut [u8], at: usize, s: &[u8], from: usize) -> usize
     requires { ⌜ (at ≤ length (now buf)) × (from ≤ length (now s)) ⌝ }
     ensures { λ _. ⌜ now (buf .exit) ≡ overwrite (now (buf .entry)) at (bytesIn (emitFrom 0 (records (drop from (now (s .entry)))))) ⌝ }
-    ensures { λ r. ⌜ PlaceBehind (now (buf .entry)) at (bytesIn (emitFrom 0 (records (drop from (now (s .entry)))))) r ⌝ }
+    ensures { λ r. ⌜ PlaceAfter (now (buf .entry)) at (bytesIn (emitFrom 0 (records (drop from (now (s .entry)))))) r ⌝ }
 {
     let mut to = at;
     let mut place = from;
@@ -746,10 +310,7 @@ fn put_records(buf: &mut [u8], at: usize, s: &[u8], from: usize) -> usize
                 to = put.place;
                 place = put.next;
             }
-            Found::Cut => {
-                return token::put_done(buf, to, LAST, rows);
-            }
-            Found::End => {
+            Found::Cut | Found::End => {
                 return token::put_done(buf, to, LAST, rows);
             }
         }
@@ -759,8 +320,8 @@ fn put_records(buf: &mut [u8], at: usize, s: &[u8], from: usize) -> usize
 // The error of the first set, where it has one, and its DONE.
 fn put_lead(buf: &mut [u8], at: usize, s: &[u8], error: ErrorAt, status: u16) -> usize
     requires { ⌜ at ≤ length (now buf) ⌝ }
-    ensures { λ _. ⌜ now (buf .exit) ≡ overwrite (now (buf .entry)) at (bytesIn (errorPieces status (errorFound (now (s .entry)) error))) ⌝ }
-    ensures { λ r. ⌜ PlaceBehind (now (buf .entry)) at (bytesIn (errorPieces status (errorFound (now (s .entry)) error))) r ⌝ }
+    ensures { λ _. ⌜ now (buf .exit) ≡ overwrite (now (buf .entry)) at (bytesIn (leadPieces status (errorFound (now (s .entry)) error))) ⌝ }
+    ensures { λ r. ⌜ PlaceAfter (now (buf .entry)) at (bytesIn (leadPieces status (errorFound (now (s .entry)) error))) r ⌝ }
 {
     match error {
         ErrorAt::At(part) => put_error(buf, at, wire::part_of(s, part), status),
@@ -768,23 +329,23 @@ fn put_lead(buf: &mut [u8], at: usize, s: &[u8], error: ErrorAt, status: u16) ->
     }
 }
 
-// The sets of a script whose first set has the classification class and goes on at next.
-fn put_sets(buf: &mut [u8], at: usize, s: &[u8], class: &[u8], next: usize) -> usize
+// The sets of a script whose first set has the classification and goes on at next.
+fn put_sets(buf: &mut [u8], at: usize, s: &[u8], classification: &[u8], next: usize) -> usize
     requires { ⌜ (at ≤ length (now buf)) × (next ≤ length (now s)) ⌝ }
-    ensures { λ _. ⌜ now (buf .exit) ≡ overwrite (now (buf .entry)) at (bytesIn (setsOf (now (class .entry)) (records (drop next (now (s .entry)))))) ⌝ }
-    ensures { λ r. ⌜ PlaceBehind (now (buf .entry)) at (bytesIn (setsOf (now (class .entry)) (records (drop next (now (s .entry)))))) r ⌝ }
+    ensures { λ _. ⌜ now (buf .exit) ≡ overwrite (now (buf .entry)) at (bytesIn (setsOf (now (classification .entry)) (records (drop next (now (s .entry)))))) ⌝ }
+    ensures { λ r. ⌜ PlaceAfter (now (buf .entry)) at (bytesIn (setsOf (now (classification .entry)) (records (drop next (now (s .entry)))))) r ⌝ }
 {
-    match error_in(s, next, script::TERMINAL_ERROR) {
+    match emission::error_in(s, next, script::TERMINAL_ERROR) {
         ErrorAt::At(part) => put_error(buf, at, wire::part_of(s, part), TERMINAL),
         ErrorAt::Missing => {
             let a = put_lead(
                 buf,
                 at,
                 s,
-                error_in(s, next, script::LEADING_ERROR),
+                emission::error_in(s, next, script::LEADING_ERROR),
                 LEADING,
             );
-            let set = put_set(buf, a, s, class, next);
+            let set = put_set(buf, a, s, classification, next);
             let b = set.place;
             let from = set.next;
             put_records(buf, b, s, from)
@@ -795,8 +356,8 @@ fn put_sets(buf: &mut [u8], at: usize, s: &[u8], class: &[u8], next: usize) -> u
 // What a script emits.
 fn put_pieces(buf: &mut [u8], at: usize, s: &[u8]) -> usize
     requires { ⌜ at ≤ length (now buf) ⌝ }
-    ensures { λ _. ⌜ now (buf .exit) ≡ overwrite (now (buf .entry)) at (bytesIn (pieces (now (s .entry)))) ⌝ }
-    ensures { λ r. ⌜ PlaceBehind (now (buf .entry)) at (bytesIn (pieces (now (s .entry)))) r ⌝ }
+    ensures { λ _. ⌜ now (buf .exit) ≡ overwrite (now (buf .entry)) at (bytesIn (walked (now (s .entry)))) ⌝ }
+    ensures { λ r. ⌜ PlaceAfter (now (buf .entry)) at (bytesIn (walked (now (s .entry)))) r ⌝ }
 {
     match script::record_at(s, 0) {
         Found::Record {
@@ -807,8 +368,7 @@ fn put_pieces(buf: &mut [u8], at: usize, s: &[u8]) -> usize
             let next = start + len;
             put_sets(buf, at, s, &s[start..next], next)
         }
-        Found::Cut => at,
-        Found::End => at,
+        Found::Cut | Found::End => at,
     }
 }
 
@@ -817,11 +377,11 @@ pub fn build_query_results(script: &[u8], buf: &mut [u8]) -> Built
     ensures { λ r. ⌜ r ≡ builtOf (now (script .entry)) (length (now (buf .entry))) ⌝ }
     ensures { λ _. ⌜ now (buf .exit) ≡ bufferOf (now (script .entry)) (now (buf .entry)) ⌝ }
 {
-    match reply_length(script) {
+    match emission::reply_length(script) {
         Measure::Refused(number) => Built::Refused(number),
         Measure::Size(length) => {
             if buf.len() < length {
-                return Built::Refused(NO_ROOM);
+                return Built::Refused(BUFFER_TOO_SHORT);
             }
             let at = packet::write_reply_header(buf, (length % 65536) as u16);
             put_pieces(buf, at, script);
@@ -855,15 +415,15 @@ pub fn build_query_result_with_extras(script: &[u8], buf: &mut [u8]) -> Built
 // Room to lend for a script's reply, or the script's refusal.
 pub enum Room {
     Bytes(usize),
-    Denied(u8),
+    Refused(u8),
 }
 
 // The room estimate: at least the reply's length, and at most 32 more.
 pub fn room_estimate(script: &[u8]) -> Room
     ensures { λ r. ⌜ isRoom (now (script .entry)) r ≡ true ⌝ }
 {
-    match reply_length(script) {
+    match emission::reply_length(script) {
         Measure::Size(length) => Room::Bytes(length),
-        Measure::Refused(number) => Room::Denied(number),
+        Measure::Refused(number) => Room::Refused(number),
     }
 }

@@ -1,4 +1,4 @@
--- What it says of records that the script is accepted: each is allowed, shaped and of UTF-16 texts, and so are those behind it;
+-- What it says of records that the script is accepted: each is allowed, shaped and of UTF-16 texts, and so are those after it;
 -- and what it says of emitted pieces that they have no fault. Assumes nothing.
 use mathlib.Core.Path.{_≡_, refl, sym, _∙_}
 use mathlib.Core.Bool.{Bool, true, false, cond, and-eq-true-iff, _&&_, _||_}
@@ -10,25 +10,28 @@ use lib.Dec.{eqb, eqb·suc-zero}
 use lib.ListN.{length, drop}
 use borrow.Author.Tests.{eqb-true, ltb-false}
 use Rattle.wire.proofs.Cases.{by-test}
+use Rattle.text.specs.Units.{units}
 use Rattle.text.specs.Surrogates.{wellFormed}
-use Rattle.token.specs.Tokens.{unitCount}
 use Rattle.script.specs.declared.Stage.{Stage}
 use Rattle.script.specs.declared.Stage.the-variants.{TextChunks}
 use Rattle.script.specs.Records.{Item, item, cut}
 use Rattle.script.specs.Order.{allowed, stageAfter}
-use Rattle.script.specs.Shape.{even, shaped, columnShaped, chunkShaped, textsOf}
+use Rattle.wire.specs.Even.{even}
+use Rattle.script.specs.Shape.{shaped, columnShaped, chunkShaped, textsOf}
 use Rattle.script.specs.Verdict.{allWellFormed, faultOf, verdictFrom}
-use Rattle.result.specs.Runs.{ahead}
-use Rattle.result.specs.Emission.{Piece, errorIn}
-use Rattle.result.specs.Refusal.{longName, pieceFault, faultIn}
-use Rattle.result.proofs.Sizes.{fault-cat}
-use Rattle.fit.specs.Misfits.{cellsIn}
+use Rattle.script.specs.Runs.{ahead}
+use Rattle.emission.specs.Emission.{Piece}
+use Rattle.emission.specs.Walk.{errorIn}
+use Rattle.emission.specs.Refusal.{pieceFault, faultIn}
+use Rattle.token.specs.Names.{longName}
+use Rattle.emission.proofs.Sizes.{fault-cat}
+use Rattle.fit.specs.Records.{cellsIn}
 use Rattle.round_trip.specs.Octets.{Bytes}
 use Rattle.round_trip.proofs.Ranges.{Payloads}
 
 -- ---- faults
 
--- no first fault, and none behind it
+-- no first fault, and none after it
 pub no-fault : (f v : ℕ) → cond (eqb f 0) v f ≡ 0 → (f ≡ 0) × (v ≡ 0)
 no-fault zero v e = (refl, e)
 no-fault (suc f) v e = let g : suc f ≡ 0 = rw (eqb·suc-zero f) at e in absurd (omega arith)
@@ -51,8 +54,8 @@ fault-first x ps e = no-fault (pieceFault x) (faultIn ps) e
 pub fault-parts : (ps qs : List Piece) → faultIn (ps ++ qs) ≡ 0 → (faultIn ps ≡ 0) × (faultIn qs ≡ 0)
 fault-parts ps qs e = no-fault (faultIn ps) (faultIn qs) (sym (fault-cat ps qs) ∙ e)
 
-pub short-name : (name : List ℕ) → longName name ≡ false → unitCount name ≤ 255
-short-name name e = ltb-false 255 (unitCount name) e
+pub short-name : (name : List ℕ) → longName name ≡ false → units name ≤ 255
+short-name name e = ltb-false 255 (units name) e
 
 -- neither of two
 pub neither : (a b : Bool) → (a || b) ≡ false → (a ≡ false) × (b ≡ false)

@@ -2,7 +2,7 @@
 -- order, the types of the set's columns and those whose cells are to come in hand. Assumes nothing.
 use mathlib.Core.Path.{_≡_, refl}
 use mathlib.Core.Bool.{true, false, cond, _||_}
-use mathlib.Core.List.{List, [], _∷_, _++_, map, append-nil}
+use mathlib.Core.List.{List, [], _∷_, _++_, map, flatMap, append-nil}
 use mathlib.Core.Option.{Option, none, some}
 use Prim.Native.Nat.{ℕ, suc, _+_, _^_, _≤_, _<_}
 use native.Mathlib.Omega.{arith}
@@ -14,26 +14,32 @@ use Rattle.wire.proofs.Cases.{by-test}
 use Rattle.wire.specs.Le.{leAt}
 use Rattle.packet.specs.Status.{hasBit}
 use Rattle.packet.proofs.Sizes.{length-packet}
-use Rattle.token.specs.Tokens.{metadata, row, cell, unitCount}
+use Rattle.text.specs.Units.{units}
+use Rattle.token.specs.Tokens.{metadata, row, cell}
 use Rattle.script.specs.declared.Stage.{Stage}
 use Rattle.script.specs.declared.Stage.the-variants.{Start, Columns, Rows}
 use Rattle.script.specs.Records.{Item, item, cut, records}
 use Rattle.script.specs.Order.{allowed, stageAfter, cellStage}
+use Rattle.script.proofs.Ordered.{first-is}
 use Rattle.script.specs.Shape.{shaped, textsOf}
 use Rattle.script.specs.Verdict.{verdictFrom, verdictOf}
-use Rattle.result.specs.Runs.{ahead}
-use Rattle.result.specs.Emission.{Piece, told, classified, columnToken, infoToken, doneToken, moreStatus, leadingStatus, terminalStatus, cellOf, columnPieces, setPieces, piecesOf, rowsAfter, emitFrom, errorIn, errorPieces, setsOf, emittedBy, pieces, tokensIn, emitted, bytesIn, replyOf}
-use Rattle.result.specs.Refusal.{longName, faultIn, refusalOf}
-use Rattle.result.proofs.Sizes.{size-told, size-row, size-cat}
+use Rattle.script.specs.Runs.{ahead}
+use Rattle.emission.specs.Emission.{Piece, tokenPiece, classificationPiece, columnToken, infoToken, doneToken, moreStatus, leadingStatus, terminalStatus, cellPieces, columnPieces, pieces, tokensIn, emitted, bytesIn, replyOf}
+use Rattle.emission.specs.Walk.{walked, beginPieces, piecesOf, rowsAfter, emitFrom, errorIn, leadPieces, setsOf, walkedBy}
+use Rattle.emission.specs.Refusal.{faultIn, refusalOf}
+use Rattle.token.specs.Names.{longName, nameFault}
+use Rattle.emission.proofs.BySets.{by-sets}
+use Rattle.emission.proofs.Sizes.{size-told, size-row, size-cat}
 use Rattle.fit.specs.declared.Fit.the-variants.{Yes}
-use Rattle.fit.specs.Misfits.{cellsIn, typesIn, setMisfits, misfitsFrom, misfits, fitOf}
+use Rattle.fit.specs.Misfits.{typesIn, fitOf}
+use Rattle.fit.specs.Records.{cellsIn, beginMisfits, misfitsFrom, misfitsIn}
 use Rattle.fit.proofs.Inverts.{Pairless, Match, noCell, match-cell, match-chunk, match-over, match-end, suits, set-fits, row-fits, fits-set, fits-row, fits-other, fits-first, fits-yes}
-use Rattle.reader.specs.WellFormed.{ColumnType, among, between, inRow, WF, WellFormed}
+use Rattle.reader.proofs.WellFormed.{ColumnType, among, between, inRow, WF, WellFormed}
 use Rattle.reader.proofs.Sendable.{done-ok, metadata-then, column-then, row-then, cell-then, message-then, done-then, done-last}
 use Rattle.round_trip.specs.Octets.{Bytes}
 use Rattle.round_trip.proofs.Ranges.{Payloads, payloads}
 use Rattle.round_trip.proofs.Accepted.{no-fault, no-test, fault-first, fault-parts, short-name, taken, no-cells, Columned, columned, whole, ErrorOk, leading-error, terminal-error, by-error}
-use Rattle.round_trip.proofs.Fields.{columnType, column-fits, info-fits, error-fits, cell-ok}
+use Rattle.round_trip.proofs.Fields.{typeOf, columnType, column-there, column-fits, cellIn, cell-there, info-fits, error-fits, cell-ok}
 
 -- the columns of type bytes
 abbrev typed : List ℕ → List ColumnType
@@ -47,27 +53,29 @@ later ps qs = omega (arith, size-cat ps qs)
 
 -- a set's columns and its classification, and what follows
 abbrev columnsThen : List ℕ → List (List ℕ) → List Piece → List Piece
-columnsThen x ps qs = (columnPieces ps ++ (classified x ∷ [])) ++ qs
+columnsThen x ps qs = (columnPieces ps ++ (classificationPiece x ∷ [])) ++ qs
 
 -- names of at most 255 units
 abbrev Named : List (List ℕ) → Type 0
 Named [] = Unit {0}
-Named (p ∷ ps) = (unitCount (drop 6 p) ≤ 255) × Named ps
+Named (p ∷ ps) = (units (drop 6 p) ≤ 255) × Named ps
 
-named : (x : List ℕ) (ps : List (List ℕ)) (qs : List Piece) → faultIn (columnsThen x ps qs) ≡ 0 → Named ps × (faultIn qs ≡ 0)
-named x [] qs e = (tt, fault-first (classified x) qs e .1)
-named x (p ∷ ps) qs e =
-    let f = fault-first (told (columnToken p)) (columnsThen x ps qs) e in
-    let r = named x ps qs (f .1) in
+named : (x : List ℕ) (ps : List (List ℕ)) (qs : List Piece) → Columned ps → faultIn (columnsThen x ps qs) ≡ 0 → Named ps × (faultIn qs ≡ 0)
+unfolding nameFault flatMap
+named x [] qs c e = (tt, fault-first (classificationPiece x) qs e .1)
+named x (p ∷ ps) qs c e =
+    let f = fault-first (tokenPiece (columnToken (typeOf (leAt 1 p)) p)) (columnsThen x ps qs) (rw (column-there p (c .0)) at e) in
+    let r = named x ps qs (c .2) (f .1) in
     ((short-name (drop 6 p) (no-test (longName (drop 6 p)) 15 (f .0)), r .0), r .1)
 
 columns-formed : (x : List ℕ) (ps : List (List ℕ)) (qs : List Piece) (cs : List ColumnType) → Columned ps → Pairless ps → Named ps
     → WF (between (cs ++ typed (typesIn ps))) (tokensIn qs) → WF (among cs (length ps)) (tokensIn (columnsThen x ps qs))
-unfolding typesIn
+unfolding typesIn flatMap
 columns-formed x [] qs cs c l n w = rw append-nil at w
 columns-formed x (p ∷ ps) qs cs c l n w =
-    column-then (column-fits p (c .0) (c .1) (l .0) (n .0))
-    (columns-formed x ps qs (cs ++ (columnType (leAt 1 p) ∷ [])) (c .2) (l .1) (n .1) (rw append-snoc w))
+    rw (column-there p (c .0))
+    (column-then (column-fits p (c .0) (c .1) (l .0) (n .0))
+    (columns-formed x ps qs (cs ++ (columnType (leAt 1 p) ∷ [])) (c .2) (l .1) (n .1) (rw append-snoc w)))
 
 -- ---- where the records go on
 
@@ -90,25 +98,25 @@ Claim rs = (set nth rows : ℕ) (types left : List ℕ) (st : Stage) → Going s
 
 -- a set's beginning, and what follows
 begins : (set : ℕ) (p : List ℕ) (rs : List Item) {cs : List ColumnType} → Claim rs → Payloads rs → verdictFrom Columns rs ≡ 0
-    → setMisfits set p rs ≡ [] → misfitsFrom set 0 (typesIn (ahead 2 rs)) rs ≡ []
-    → faultIn (setPieces p rs ++ emitFrom 0 rs) ≡ 0 → length (bytesIn (setPieces p rs ++ emitFrom 0 rs)) < 256 ^ 8
-    → WF (between cs) (tokensIn (setPieces p rs ++ emitFrom 0 rs))
+    → beginMisfits set p rs ≡ [] → misfitsFrom set 0 (typesIn (ahead 2 rs)) rs ≡ []
+    → faultIn (beginPieces p rs ++ emitFrom 0 rs) ≡ 0 → length (bytesIn (beginPieces p rs ++ emitFrom 0 rs)) < 256 ^ 8
+    → WF (between cs) (tokensIn (beginPieces p rs ++ emitFrom 0 rs))
 begins set p rs rest b v m f e l =
     let s = set-fits set p rs m in
-    let h = fault-first (told (metadata (length (ahead 2 rs)))) (columnsThen p (ahead 2 rs) (emitFrom 0 rs)) e in
-    let n = named p (ahead 2 rs) (emitFrom 0 rs) (h .1) in
+    let h = fault-first (tokenPiece (metadata (length (ahead 2 rs)))) (columnsThen p (ahead 2 rs) (emitFrom 0 rs)) e in
+    let n = named p (ahead 2 rs) (emitFrom 0 rs) (columned Columns rs v) (h .1) in
     let go : Going set 0 0 (typesIn (ahead 2 rs)) [] Columns rs = record {
       bytes = b;
       accepted = v;
       fits = f;
       cells = rw (no-cells Columns rs refl refl v) noCell;
       sound = n .1;
-      short = omega (arith, later (setPieces p rs) (emitFrom 0 rs));
+      short = omega (arith, later (beginPieces p rs) (emitFrom 0 rs));
     } in
     metadata-then (s .1)
     (columns-formed p (ahead 2 rs) (emitFrom 0 rs) [] (columned Columns rs v) (s .2) (n .0) (rest set 0 0 (typesIn (ahead 2 rs)) [] Columns go))
 
--- behind a record that is no row, cell or chunk no cell follows
+-- after a record that is no row, cell or chunk no cell follows
 outside : (st : Stage) (k : ℕ) (p : List ℕ) → eqb k 4 ≡ false → eqb k 5 ≡ false → eqb k 6 ≡ false
     → (allowed (stageAfter st k p) 5 ≡ false) × (allowed (stageAfter st k p) 6 ≡ false)
 unfolding stageAfter
@@ -117,7 +125,7 @@ outside st k p h4 h5 h6 =
     (λ a. by-test (eqb k 3 || eqb k 8) (λ b. rw (a, b) (refl, refl))
     (λ b. by-test (eqb k 7) (λ c. rw (a, b, h4, h5, h6, c) (refl, refl)) (λ c. rw (a, b, h4, h5, h6, c) (refl, refl))))
 
--- ---- a record, and those behind it
+-- ---- a record, and those after it
 
 module _ (p : List ℕ) (rs : List Item) (rest : Claim rs) (set nth rows : ℕ) (types left : List ℕ) (st : Stage) where
   abbrev At : ℕ → Type 0
@@ -128,9 +136,9 @@ module _ (p : List ℕ) (rs : List Item) (rest : Claim rs) (set nth rows : ℕ) 
   set-at g =
       let t = taken st 1 p rs (g .accepted) in
       let f = fits-set set nth types 1 p rs (g .fits) refl in
-      let d = fault-first (told (doneToken moreStatus rows)) (setPieces p rs ++ emitFrom 0 rs) (g .sound) in
-      let l : length (bytesIn (setPieces p rs ++ emitFrom 0 rs)) < 256 ^ 8 = omega (arith, g .short, later (told (doneToken moreStatus rows) ∷ []) (setPieces p rs ++ emitFrom 0 rs)) in
-      let w : WF (between []) (tokensIn (setPieces p rs ++ emitFrom 0 rs)) = begins (suc set) p rs rest (g .bytes .1) (t .rest) (f .0) (f .1) (d .1) l in
+      let d = fault-first (tokenPiece (doneToken moreStatus rows)) (beginPieces p rs ++ emitFrom 0 rs) (g .sound) in
+      let l : length (bytesIn (beginPieces p rs ++ emitFrom 0 rs)) < 256 ^ 8 = omega (arith, g .short, later (tokenPiece (doneToken moreStatus rows) ∷ []) (beginPieces p rs ++ emitFrom 0 rs)) in
+      let w : WF (between []) (tokensIn (beginPieces p rs ++ emitFrom 0 rs)) = begins (suc set) p rs rest (g .bytes .1) (t .rest) (f .0) (f .1) (d .1) l in
       let over : left ≡ [] = match-over left 1 p rs (g .cells) refl refl in
       rw over (done-then (done-ok (omega arith) (omega arith) (omega (arith, g .short))) refl w)
 
@@ -150,14 +158,14 @@ module _ (p : List ℕ) (rs : List Item) (rest : Claim rs) (set nth rows : ℕ) 
       })
 
   info-of : (k : ℕ) → Going set nth rows types left st (item k p ∷ rs) → eqb k 1 ≡ false → eqb k 4 ≡ false → eqb k 5 ≡ false → eqb k 6 ≡ false
-      → textsOf k p ≡ textsOf 3 p → emitFrom rows (item k p ∷ rs) ≡ told (infoToken p) ∷ emitFrom rows rs → Formed rows types left (item k p ∷ rs)
+      → textsOf k p ≡ textsOf 3 p → emitFrom rows (item k p ∷ rs) ≡ tokenPiece (infoToken p) ∷ emitFrom rows rs → Formed rows types left (item k p ∷ rs)
   info-of k g h1 h4 h5 h6 same e =
       let t = taken st k p rs (g .accepted) in
-      let s : faultIn (told (infoToken p) ∷ emitFrom rows rs) ≡ 0 = rw e at (g .sound) in
-      let l : rows + length (bytesIn (told (infoToken p) ∷ emitFrom rows rs)) < 256 ^ 8 = rw e at (g .short) in
-      let f = fault-first (told (infoToken p)) (emitFrom rows rs) s in
+      let s : faultIn (tokenPiece (infoToken p) ∷ emitFrom rows rs) ≡ 0 = rw e at (g .sound) in
+      let l : rows + length (bytesIn (tokenPiece (infoToken p) ∷ emitFrom rows rs)) < 256 ^ 8 = rw e at (g .short) in
+      let f = fault-first (tokenPiece (infoToken p)) (emitFrom rows rs) s in
       let over : left ≡ [] = match-over left k p rs (g .cells) h5 h6 in
-      let w = past k g h1 h4 h5 h6 (f .1) (omega (arith, l, later (told (infoToken p) ∷ []) (emitFrom rows rs))) in
+      let w = past k g h1 h4 h5 h6 (f .1) (omega (arith, l, later (tokenPiece (infoToken p) ∷ []) (emitFrom rows rs))) in
       rw (over, e) (message-then (info-fits p (g .bytes .0) (rw same at (t .texts)) (f .0)) w)
 
   info-at : (k : ℕ) → (eqb k 3 || eqb k 9) ≡ true → At k
@@ -173,7 +181,7 @@ module _ (p : List ℕ) (rs : List Item) (rest : Claim rs) (set nth rows : ℕ) 
       let t = taken st 4 p rs (g .accepted) in
       let f = fits-row set nth types 4 p rs (g .fits) refl refl in
       let r = row-fits set nth types rs (f .0) in
-      let s = fault-first (told row) (emitFrom (suc rows) rs) (g .sound) in
+      let s = fault-first (tokenPiece row) (emitFrom (suc rows) rs) (g .sound) in
       let over : left ≡ [] = match-over left 4 p rs (g .cells) refl refl in
       let go : Going set (suc nth) (suc rows) types types Rows rs = record {
         bytes = g .bytes .1;
@@ -191,7 +199,8 @@ module _ (p : List ℕ) (rs : List Item) (rest : Claim rs) (set nth rows : ℕ) 
   cell-at g =
       let t = taken st 5 p rs (g .accepted) in
       let m = match-cell left 5 p rs (g .cells) refl in
-      let f = fault-first (told (cell (cellOf p (ahead 6 rs)))) (emitFrom rows rs) (g .sound) in
+      let there = cell-there p (ahead 6 rs) (t .shape) in
+      let f = fault-first (tokenPiece (cell (cellIn p (ahead 6 rs)))) (emitFrom rows rs) (rw there at (g .sound)) in
       let next : verdictFrom (stageAfter st 5 p) rs ≡ 0 = t .rest in
       let go : Going set nth rows types (m .1) (stageAfter st 5 p) rs = record {
         bytes = g .bytes .1;
@@ -199,10 +208,10 @@ module _ (p : List ℕ) (rs : List Item) (rest : Claim rs) (set nth rows : ℕ) 
         fits = fits-other set nth types 5 p rs (g .fits) refl refl;
         cells = m .4;
         sound = f .1;
-        short = omega (arith, g .short, later (told (cell (cellOf p (ahead 6 rs))) ∷ []) (emitFrom rows rs));
+        short = omega (arith, g .short, later (cellPieces p (ahead 6 rs)) (emitFrom rows rs));
       } in
       let ok = cell-ok (m .0) p (ahead 6 rs) (g .bytes .0) (t .texts) (f .0) (λ e. whole rs (rw e at next)) (suits (m .0) p (t .shape) (m .3)) in
-      rw (m .2) (cell-then ok (rest set nth rows types (m .1) (stageAfter st 5 p) go))
+      rw (m .2, there) (cell-then ok (rest set nth rows types (m .1) (stageAfter st 5 p) go))
 
   chunk-at : At 6
   unfolding emitFrom piecesOf rowsAfter stageAfter
@@ -257,14 +266,14 @@ formed (item k p ∷ rs) set nth rows types left st g = item-at p rs (formed rs)
 -- ---- the script
 
 -- a leading error
-leads : (o : Option (List ℕ)) (qs : List Piece) → ErrorOk o → WF (between []) (tokensIn qs) → WF (between []) (tokensIn (errorPieces leadingStatus o ++ qs))
+leads : (o : Option (List ℕ)) (qs : List Piece) → ErrorOk o → WF (between []) (tokensIn qs) → WF (between []) (tokensIn (leadPieces leadingStatus o ++ qs))
 unfolding hasBit
 leads none qs ok w = w
 leads (some e) qs ok w =
     message-then (error-fits e (ok .0) (ok .1)) (done-then (done-ok (omega arith) (omega arith) (omega arith)) refl w)
 
 -- a terminal error
-stops : (e : List ℕ) → ErrorOk (some e) → WF (between []) (tokensIn (errorPieces terminalStatus (some e)))
+stops : (e : List ℕ) → ErrorOk (some e) → WF (between []) (tokensIn (leadPieces terminalStatus (some e)))
 unfolding hasBit
 stops e ok = message-then (error-fits e (ok .0) (ok .1)) (done-last (done-ok (omega arith) (omega arith) (omega arith)) refl)
 
@@ -276,26 +285,25 @@ never-none e = absurd (omega (arith, e))
 first-set : (k : ℕ) (p : List ℕ) (rs : List Item) → verdictFrom Start (item k p ∷ rs) ≡ 0 → verdictFrom Columns rs ≡ 0
 unfolding stageAfter
 first-set k p rs e =
-    let t = taken Start k p rs e in
-    let v : verdictFrom (stageAfter Start k p) rs ≡ 0 = t .rest in
-    rw (eqb-true k 1 (t .order)) at v
+    let v : verdictFrom (stageAfter Start k p) rs ≡ 0 = taken Start k p rs e .rest in
+    rw (first-is k p rs e) at v
 
-sets-formed : (k : ℕ) (p : List ℕ) (rs : List Item) → Payloads rs → verdictFrom Columns rs ≡ 0 → misfits (item k p ∷ rs) ≡ []
+sets-formed : (k : ℕ) (p : List ℕ) (rs : List Item) → Payloads rs → verdictFrom Columns rs ≡ 0 → misfitsIn (item k p ∷ rs) ≡ []
     → faultIn (setsOf p rs) ≡ 0 → length (bytesIn (setsOf p rs)) < 256 ^ 8 → WellFormed (tokensIn (setsOf p rs))
 sets-formed k p rs b v m s l =
     by-error (errorIn 8 rs)
     (λ h.
-    let sets : List Piece = setPieces p rs ++ emitFrom 0 rs in
+    let sets : List Piece = beginPieces p rs ++ emitFrom 0 rs in
     let f = fits-first k p rs m h in
-    let s′ : faultIn (errorPieces leadingStatus (errorIn 7 rs) ++ sets) ≡ 0 = rw h at s in
-    let l′ : length (bytesIn (errorPieces leadingStatus (errorIn 7 rs) ++ sets)) < 256 ^ 8 = rw h at l in
-    let w = begins 0 p rs (formed rs) b v (f .0) (f .1) (fault-parts (errorPieces leadingStatus (errorIn 7 rs)) sets s′ .1) (omega (arith, l′, later (errorPieces leadingStatus (errorIn 7 rs)) sets)) in
+    let s′ : faultIn (leadPieces leadingStatus (errorIn 7 rs) ++ sets) ≡ 0 = rw h at s in
+    let l′ : length (bytesIn (leadPieces leadingStatus (errorIn 7 rs) ++ sets)) < 256 ^ 8 = rw h at l in
+    let w = begins 0 p rs (formed rs) b v (f .0) (f .1) (fault-parts (leadPieces leadingStatus (errorIn 7 rs)) sets s′ .1) (omega (arith, l′, later (leadPieces leadingStatus (errorIn 7 rs)) sets)) in
     rw h (leads (errorIn 7 rs) sets (leading-error Columns rs b v) w))
     (λ e h. let ok : ErrorOk (some e) = rw h at (terminal-error Columns rs b v) in rw h (stops e ok))
 
-script-formed : (rs : List Item) → Payloads rs → verdictFrom Start rs ≡ 0 → misfits rs ≡ [] → faultIn (emittedBy rs) ≡ 0
-    → length (bytesIn (emittedBy rs)) < 256 ^ 8 → WellFormed (tokensIn (emittedBy rs))
-unfolding emittedBy
+script-formed : (rs : List Item) → Payloads rs → verdictFrom Start rs ≡ 0 → misfitsIn rs ≡ [] → faultIn (walkedBy rs) ≡ 0
+    → length (bytesIn (walkedBy rs)) < 256 ^ 8 → WellFormed (tokensIn (walkedBy rs))
+unfolding walkedBy
 script-formed [] b v m s l = never-none v
 script-formed (cut ∷ rs) b v m s l = never-cut Start rs v
 script-formed (item k p ∷ rs) b v m s l = sets-formed k p rs (b .1) (first-set k p rs v) m s l
@@ -309,9 +317,10 @@ not-refused s e =
     (v .0, f .0, ltb-false 65535 (length (replyOf s)) (no-test (ltb 65535 (length (replyOf s))) 16 (f .1)))
 
 pub emitted-well-formed : (s : List ℕ) → Bytes s → fitOf s ≡ Yes → WellFormed (emitted s)
-unfolding emitted pieces verdictOf replyOf
+unfolding emitted walked verdictOf replyOf
 emitted-well-formed s b f =
     let y = fits-yes s f in
     let r = not-refused s (y .0) in
+    let same = by-sets s (r .0) in
     let l : length (bytesIn (pieces s)) < 256 ^ 8 = omega (arith, r .2, length-packet (bytesIn (pieces s))) in
-    script-formed (records s) (payloads s b) (r .0) (y .1) (r .1) l
+    rw same (script-formed (records s) (payloads s b) (r .0) (y .1) (rw same at (r .1)) (rw same at l))

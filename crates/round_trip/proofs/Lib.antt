@@ -4,5 +4,10 @@ pub mod Fields
 pub mod Formed
 pub mod Bare
 pub mod RoundTrip
-pub mod Corollaries
+pub mod Reading
+pub mod Values
+pub mod Data
+pub mod Counts
+pub mod Witness
+pub mod Counter
 pub mod Running

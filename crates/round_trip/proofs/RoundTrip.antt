@@ -12,15 +12,13 @@ use Rattle.wire.proofs.Cases.{by-test}
 use Rattle.wire.proofs.Over.{over-eq}
 use Rattle.token.specs.Tokens.{states}
 use Rattle.result.specs.declared.Built.the-variants.{Written, Refused}
-use Rattle.result.specs.Emission.{emitted, replyOf}
-use Rattle.result.specs.Refusal.{refusalOf, builtOf, bufferOf}
+use Rattle.emission.specs.Emission.{emitted, replyOf}
+use Rattle.emission.specs.Refusal.{refusalOf}
+use Rattle.result.specs.Built.{builtOf, bufferOf}
 use Rattle.fit.proofs.Inverts.{fits-yes}
-use Rattle.reader.specs.Positions.{freshPosition}
-use Rattle.reader.specs.Reader.{answerOf}
-use Rattle.reader.specs.Meaning.{tell, kth}
-use Rattle.reader.specs.WellFormed.{tokensPacket}
+use Rattle.reader.proofs.WellFormed.{tokensPacket}
 use Rattle.reader.proofs.ReadBack.{reads-back}
-use Rattle.round_trip.specs.RoundTrip.{packetIn, Sent, RoundTrip}
+use Rattle.round_trip.specs.RoundTrip.{packetIn, Sent, Reads, RoundTrip}
 use Rattle.round_trip.proofs.Formed.{emitted-well-formed, not-refused}
 use Rattle.round_trip.proofs.Bare.{reply-is}
 
@@ -46,14 +44,14 @@ module _ (s b : List ℕ) (n : ℕ) (h : Sent s b n) where
       rw (h .built, over-eq (replyOf s) b 0 room) (take-at (replyOf s) (drop (0 + length (replyOf s)) b) n (w .0))
 
   -- the packet of the tokens that the script emits
-  pub packet-is : packetIn s b n ≡ tokensPacket (emitted s)
+  packet-is : packetIn s b n ≡ tokensPacket (emitted s)
   packet-is = reply-left ∙ reply-is s (h .fits)
 
-  pub packet-short : length (tokensPacket (emitted s)) < 65536
+  packet-short : length (tokensPacket (emitted s)) < 65536
   packet-short = let r = not-refused s (fits-yes s (h .fits) .0) in omega (arith, r .2, ap length (reply-is s (h .fits)))
 
-  read : (p : List ℕ) → p ≡ tokensPacket (emitted s) → (k : ℕ) → tell p (answerOf k p freshPosition) ≡ kth (map states (emitted s)) k
+  read : (p : List ℕ) → p ≡ tokensPacket (emitted s) → Reads p (map states (emitted s))
   read p e k = rw e (reads-back (emitted s) (emitted-well-formed s (h .bytes) (h .fits)) packet-short k)
 
 pub round-trip : RoundTrip
-round-trip s b n h k = read s b n h (packetIn s b n) (packet-is s b n h) k
+round-trip s b n h = read s b n h (packetIn s b n) (packet-is s b n h)

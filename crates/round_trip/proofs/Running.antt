@@ -4,10 +4,10 @@ use mathlib.Core.List.{List, [], _∷_}
 use Prim.Native.Nat.{ℕ, zero, suc, _-_, _<_}
 use native.Mathlib.Omega.{arith}
 use lib.ListN.{length, take, getD}
-use Rattle.wire.specs.Part.{bytesOf}
+use Rattle.wire.specs.Part.{partBytes}
 use Rattle.result.specs.declared.Built.{Built}
 use Rattle.result.specs.declared.Built.the-variants as built
-use Rattle.result.specs.Refusal.{builtOf, bufferOf}
+use Rattle.result.specs.Built.{builtOf, bufferOf}
 use Rattle.reader.specs.declared.Answer.{Answer}
 use Rattle.reader.specs.declared.Position.{Position}
 use Rattle.reader.specs.declared.Step.{Step}
@@ -32,9 +32,9 @@ stepped p pos zero e h g = absurd (omega arith)
 stepped p pos (suc n) e h g = let one : suc n - 1 ≡ n = omega arith in rw one (sym (answer-next p pos (sym e) n) ∙ g)
 
 -- the step that answers, over the first bytes of a buffer
-pub last-answer : (buf p : List ℕ) (pos : Position) (len n k : ℕ) {s : Step} → p ≡ bytesOf buf (record { start = 0; len = len }) → s ≡ stepOf p pos → n ≡ 0
+pub last-answer : (buf p : List ℕ) (pos : Position) (len n k : ℕ) {s : Step} → p ≡ partBytes buf (record { start = 0; len = len }) → s ≡ stepOf p pos → n ≡ 0
     → answerOf n p pos ≡ answerOf k p freshPosition → s .answer ≡ answerOf k (take len buf) freshPosition
-unfolding bytesOf
+unfolding partBytes
 last-answer buf p pos len n k part e z g =
     let first : answerOf n p pos ≡ _ = ap (λ (m : ℕ). answerOf m p pos) z ∙ answer-first p pos (sym e) in
     sym first ∙ g ∙ ap (λ (l : List ℕ). answerOf k l freshPosition) part

@@ -1,4 +1,5 @@
 pub mod Octets
 pub mod RoundTrip
-pub mod Corollaries
+pub mod Reading
+pub mod Data
 pub mod Running

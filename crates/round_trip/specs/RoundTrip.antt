@@ -4,30 +4,36 @@ use Prim.Native.Nat.{ℕ}
 use mathlib.Core.Path.{_≡_}
 use mathlib.Core.List.{List, map}
 use lib.ListN.{length, take}
-use Rattle.token.specs.Tokens.{states}
+use Rattle.token.specs.Tokens.{Token, Value, states}
 use Rattle.result.specs.declared.Built.the-variants.{Written}
-use Rattle.result.specs.Emission.{emitted}
-use Rattle.result.specs.Refusal.{builtOf, bufferOf}
+use Rattle.emission.specs.Emission.{emitted}
+use Rattle.result.specs.Built.{builtOf, bufferOf}
 use Rattle.fit.specs.declared.Fit.the-variants.{Yes}
 use Rattle.fit.specs.Misfits.{fitOf}
 use Rattle.reader.specs.Positions.{freshPosition}
 use Rattle.reader.specs.Reader.{answerOf}
-use Rattle.reader.specs.Meaning.{tell, kth}
+use Rattle.reader.specs.Meaning.{meaningOf, kth}
 use Rattle.round_trip.specs.Octets.{Bytes}
 
 -- the packet of n bytes that the builder left for a script s in a lent buffer that held b
 abbrev pub packetIn : List ℕ → List ℕ → ℕ → List ℕ
 packetIn s b n = take n (bufferOf s b)
 
--- a script of bytes that the builder accepted, writing n bytes over the lent b, and that fits
+-- A script of bytes that the builder accepted, writing n bytes over the lent b, and that fits: 'a call of the reply builder that is
+-- not refused accepts its script; the packet is what it writes'.
 pub record Sent (s b : List ℕ) (n : ℕ) : Type 0 where
   pub bytes : Bytes s
   pub built : builtOf s (length b) ≡ Written n
   pub fits : fitOf s ≡ Yes
 
--- For every script, lent buffer and k: the k-th answer of a run over the packet, from the fresh position, tells what the k-th
--- token that the script emits states, in every field, and the end from then on.
+-- A packet reads as some tokens: the nth step hands out the nth token, in every field, and the end from then on. This is one claim
+-- about the whole run, for every k from 0: 'a run starts at the fresh position, just past the header with no column types held; each
+-- step gets the position the last one handed back, or after end the same again, and nobody writes the packet'. So no step is refused,
+-- no token is left out, and nothing else is read.
+abbrev pub Reads : List ℕ → List (Token Value) → Type 0
+Reads packet ts = (k : ℕ) → meaningOf packet (answerOf k packet freshPosition) ≡ kth ts k
+
+-- Demand 3: the packet of a script that was sent reads as the tokens that the script emits, with their records' fields and their
+-- cells' values ('a part stands for the bytes in it, a Max part for its chunks' bytes joined').
 abbrev pub RoundTrip : Type 0
-RoundTrip =
-    (s b : List ℕ) (n : ℕ) → Sent s b n
-    → (k : ℕ) → tell (packetIn s b n) (answerOf k (packetIn s b n) freshPosition) ≡ kth (map states (emitted s)) k
+RoundTrip = (s b : List ℕ) (n : ℕ) → Sent s b n → Reads (packetIn s b n) (map states (emitted s))

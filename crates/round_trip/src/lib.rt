@@ -6,7 +6,7 @@ use result::Built;
 use wire::Part;
 ghost use mathlib.Core.Path.{_≡_};
 ghost use lib.ListN.{length, take};
-ghost use Rattle.result.specs.Refusal.{builtOf, bufferOf};
+ghost use Rattle.result.specs.Built.{builtOf, bufferOf};
 ghost use Rattle.reader.specs.Positions.{freshPosition};
 ghost use Rattle.reader.specs.Reader.{answerOf};
 ghost use Rattle.round_trip.specs.Running.{kthOf, ReadBack};
@@ -33,8 +33,8 @@ fn answer_in(buf: &[u8], len: usize, k: usize) -> Answer
     last.answer
 }
 
-// The k-th answer, from 0, of a run over a script's reply, which is built into the lent buffer. Where the script fits, it
-// tells the k-th token that the script emits, and the end from then on.
+// The k-th answer, from 0, of a run over a script's reply, which is built into the lent buffer. Where the script is accepted
+// and fits, it tells the k-th token that the script emits, in every field, and the end from then on.
 pub fn kth_token(script: &[u8], buf: &mut [u8], k: usize) -> Kth
     ensures { λ r. ⌜ r ≡ kthOf (builtOf (now (script .entry)) (length (now (buf .entry)))) (bufferOf (now (script .entry)) (now (buf .entry))) k ⌝ }
     ensures { λ _. ⌜ now (buf .exit) ≡ bufferOf (now (script .entry)) (now (buf .entry)) ⌝ }

@@ -1,16 +1,21 @@
--- A turn of the verdict over the records. Assumes nothing.
-use mathlib.Core.Path.{_≡_, refl, sym, _∙_}
+-- A turn of the verdict over the records, and what its answer says. Assumes nothing.
+use mathlib.Core.Path.{_≡_, refl, sym, ap, _∙_}
 use mathlib.Core.List.{List}
 use mathlib.Core.Bool.{Bool, true, false, _&&_}
 use Prim.Native.Nat.{ℕ, _+_, _-_}
 use native.Mathlib.Nat.{add-sub-cancel-left}
 use lib.ListN.{take, drop}
-use borrow.Author.Tests.{ne-eqb}
+use native.Mathlib.Omega.{arith}
+use lib.Dec.{eqb}
+use borrow.Author.Tests.{ne-eqb, eqb-true}
+use Rattle.wire.proofs.Cases.{by-test}
+use Rattle.script.specs.declared.Checked.{Checked}
+use Rattle.script.specs.declared.Checked.the-variants.{Accepted, Refused}
 use Rattle.script.specs.declared.Found.the-variants.{Record, Cut, End}
 use Rattle.script.specs.declared.Stage.{Stage}
 use Rattle.script.specs.Records.{records, recordAt}
 use Rattle.script.specs.Order.{stageAfter}
-use Rattle.script.specs.Verdict.{faultOf, endFault, verdictFrom}
+use Rattle.script.specs.Verdict.{faultOf, endFault, verdictFrom, verdictOf, checkedOf}
 use Rattle.script.proofs.Walk.{turn, cuts, ends}
 
 -- three tests, in one expression and one after another
@@ -38,3 +43,39 @@ module _ (s : List ℕ) (at : ℕ) (stage : Stage) where
     pub verdict-next : f ≡ 0 → verdictFrom stage (records (drop at s)) ≡ verdictFrom (stageAfter stage k (take (st + n - st) (drop st s))) (records (drop (st + n) s))
     unfolding verdictFrom
     verdict-next h = let g′ = rw (add-sub-cancel-left st n) at g in rw (add-sub-cancel-left st n, turn s at e, sym g′ ∙ h)
+
+-- ---- the answer, by the script's refusal
+
+module _ (s : List ℕ) {v : ℕ} (e : v ≡ verdictOf s) where
+  pub answer-none : v ≡ 0 → Accepted ≡ checkedOf s
+  unfolding checkedOf
+  answer-none h = rw (← e, h)
+
+  pub answer-some : (v ≡ 0 → ⊥) → Refused v ≡ checkedOf s
+  unfolding checkedOf
+  answer-some h = rw (← e, ne-eqb v 0 h)
+
+-- what it says of the refusal
+
+abbrev numberIn : Checked → ℕ
+numberIn Accepted = 0
+numberIn (Refused n) = n
+
+module _ (s : List ℕ) where
+  number-is : numberIn (checkedOf s) ≡ verdictOf s
+  unfolding checkedOf
+  number-is = by-test (eqb (verdictOf s) 0) (λ e. rw e (sym (eqb-true (verdictOf s) 0 e))) (λ e. rw e)
+
+  pub accepted-none : checkedOf s ≡ Accepted → verdictOf s ≡ 0
+  accepted-none e = sym number-is ∙ ap numberIn e
+
+  module _ {n : ℕ} (e : checkedOf s ≡ Refused n) where
+    pub refused-by : n ≡ verdictOf s
+    refused-by = sym (ap numberIn e) ∙ number-is
+
+    pub refused-some : n ≡ 0 → ⊥
+    unfolding checkedOf
+    refused-some z =
+        let v : verdictOf s ≡ 0 = sym refused-by ∙ z in
+        let a : Accepted ≡ Refused n = rw v at e in
+        let c : _≡_ {A = ℕ} 0 1 = cc in omega arith

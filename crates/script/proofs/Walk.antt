@@ -1,15 +1,15 @@
 -- What the record at a place says of the records from there on, and of the next place: what every loop over records uses.
 -- Assumes nothing.
-use mathlib.Core.Path.{_≡_, refl, ap, _∙_}
+use mathlib.Core.Path.{_≡_, refl, sym, ap, _∙_}
 use mathlib.Core.List.{List, [], _∷_}
 use mathlib.Core.Bool.{cond}
 use Prim.Native.Nat.{ℕ, zero, suc, _+_, _-_, _≤_, _<_}
 use native.Mathlib.Nat.{le-of-suc-le-suc, not-suc-le-zero}
 use native.Mathlib.Omega.{arith}
 use lib.ListN.{length, take, drop, length-drop, drop-of-length-le}
-use lib.Seq.{drop-drop}
+use lib.Seq.{drop-drop, length-take-le}
 use lib.Dec.{leb}
-use borrow.Author.Tests.{le-ltb, lt-ltb, le-leb, lt-leb}
+use borrow.Author.Tests.{le-leb, lt-leb}
 use Rattle.wire.proofs.Cases.{split}
 use Rattle.wire.specs.Le.{leAt}
 use Rattle.script.specs.Records.{Item, item, cut, parse, records, recordAt}
@@ -61,50 +61,78 @@ module _ (s : List ℕ) (at : ℕ) where
   abbrev N : ℕ
   N = leAt 4 (drop at s)
 
-  -- the four cases of `recordAt`
-  is-end : length s ≤ at → recordAt s at ≡ End
-  unfolding recordAt
-  is-end h = simp (le-leb _ _ h)
+  -- the head that stands at the place
+  head-at : at + 6 ≤ length s → records (drop at s) ≡ cond (leb N (length s - (at + 6))) (item (leAt 2 (drop (at + 4) s)) (take N (drop (at + 6) s)) ∷ parse N (drop (at + 6) s)) (cut ∷ [])
+  unfolding records
+  head-at h = parse-head (drop at s) (simp length-drop (omega arith)) ∙ simp (drop-drop, length-drop)
 
-  is-cut : at < length s → length s - at < 6 → recordAt s at ≡ Cut
-  unfolding recordAt
-  is-cut g h = simp (lt-leb _ _ g, lt-ltb _ _ h)
+  -- no byte, a cut head, a cut payload, a whole record
+  no-byte : length s ≤ at → records (drop at s) ≡ []
+  unfolding records parse
+  no-byte h = rw (drop-of-length-le s h)
 
-  pub is-short : at < length s → 6 ≤ length s - at → length s - (at + 6) < N → recordAt s at ≡ Cut
-  unfolding recordAt
-  is-short g h k = simp (lt-leb _ _ g, le-ltb _ _ h, lt-ltb _ _ k)
+  cut-head : at < length s → length s < at + 6 → records (drop at s) ≡ cut ∷ []
+  unfolding records
+  cut-head g h = parse-cut (drop at s) (simp length-drop (omega arith)) (simp length-drop (omega arith))
 
-  pub is-whole : at < length s → 6 ≤ length s - at → N ≤ length s - (at + 6) → recordAt s at ≡ Record (leAt 2 (drop (at + 4) s)) (at + 6) N
+  module _ (h : at + 6 ≤ length s) where
+    cut-payload : length s < at + 6 + N → records (drop at s) ≡ cut ∷ []
+    cut-payload k = rw (head-at h, lt-leb N (length s - (at + 6)) (omega arith))
+
+    whole : at + 6 + N ≤ length s → records (drop at s) ≡ item (leAt 2 (drop (at + 4) s)) (take N (drop (at + 6) s)) ∷ records (drop (at + 6 + N) s)
+    unfolding records
+    whole k = rw (head-at h, le-leb N (length s - (at + 6)) (omega arith), parse-skip N (drop (at + 6) s) (simp length-drop (omega arith)), drop-drop)
+
+  -- `recordAt` in these cases
+  pub is-end : length s ≤ at → recordAt s at ≡ End
   unfolding recordAt
-  is-whole g h k = simp (lt-leb _ _ g, le-ltb _ _ h, le-ltb _ _ k)
+  is-end h = rw (no-byte h)
+
+  is-cut : at < length s → length s < at + 6 → recordAt s at ≡ Cut
+  unfolding recordAt
+  is-cut g h = rw (cut-head g h)
+
+  -- fewer bytes than a head has
+  pub is-left : length s < at + 6 → cond (leb (length s) at) End Cut ≡ recordAt s at
+  is-left h =
+      split (length s) at
+      (λ l. rw (le-leb (length s) at l) (sym (is-end l)))
+      (λ g. rw (lt-leb (length s) at g) (sym (is-cut g h)))
+
+  is-short : at + 6 ≤ length s → length s < at + 6 + N → recordAt s at ≡ Cut
+  unfolding recordAt
+  is-short h k = rw (cut-payload h k)
+
+  is-whole : at + 6 ≤ length s → at + 6 + N ≤ length s → recordAt s at ≡ Record (leAt 2 (drop (at + 4) s)) (at + 6) N
+  unfolding recordAt
+  is-whole h k = rw (whole h k, length-take-le N (drop (at + 6) s) (simp length-drop (omega arith)))
+
+  -- with the length and the kind as they were read
+  module _ {n : ℕ} (e : n ≡ N) (h : at + 6 ≤ length s) where
+    pub too-long : length s < at + 6 + n → Cut ≡ recordAt s at
+    too-long k = sym (is-short h (rw e at k))
+
+    pub record-is : {k : ℕ} → k ≡ leAt 2 (drop (at + 4) s) → at + 6 + n ≤ length s → Record k (at + 6) n ≡ recordAt s at
+    record-is f k = rw (f, e) (sym (is-whole h (rw e at k)))
+
+  -- for all of them
+  cases {ℓ} : {X : Type ℓ} → (length s ≤ at → X) → (at < length s → length s < at + 6 → X) → (at + 6 ≤ length s → length s < at + 6 + N → X)
+      → (at + 6 ≤ length s → at + 6 + N ≤ length s → X) → X
+  cases e c p w = split (length s) at e (λ g. split (at + 6) (length s) (λ h. split (at + 6 + N) (length s) (w h) (p h)) (c g))
 
   -- where a record at the place lies
   pub within : Within s at (recordAt s at)
   unfolding Within
-  within =
-      split (length s) at
-      (λ h. rw (is-end h) tt)
-      (λ g. split 6 (length s - at)
-      (λ h. split N (length s - (at + 6))
-      (λ k. rw (is-whole g h k) (refl, omega arith))
-      (λ k. rw (is-short g h k) tt))
-      (λ h. rw (is-cut g h) tt))
-
-  -- the head that stands at the place
-  head-at : 6 ≤ length s - at → records (drop at s) ≡ cond (leb N (length s - (at + 6))) (item (leAt 2 (drop (at + 4) s)) (take N (drop (at + 6) s)) ∷ parse N (drop (at + 6) s)) (cut ∷ [])
-  unfolding records
-  head-at h = parse-head (drop at s) (simp length-drop h) ∙ simp (drop-drop, length-drop)
+  within = cases (λ h. rw (is-end h) tt) (λ g h. rw (is-cut g h) tt) (λ h k. rw (is-short h k) tt) (λ h k. rw (is-whole h k) (refl, k))
 
   pub follows : records (drop at s) ≡ follow s (recordAt s at)
-  unfolding records follow
+  unfolding follow
   follows =
-      split (length s) at
-      (λ h. rw (is-end h, drop-of-length-le s h))
-      (λ g. split 6 (length s - at)
-      (λ h. split N (length s - (at + 6))
-      (λ k. rw (is-whole g h k, head-at h, le-leb _ _ k, parse-skip N (drop (at + 6) s) (simp length-drop k), drop-drop))
-      (λ k. rw (is-short g h k, head-at h, lt-leb _ _ k)))
-      (λ h. rw (is-cut g h) (parse-cut (drop at s) (simp length-drop (omega arith)) (simp length-drop h))))
+      cases
+      (λ h. no-byte h ∙ sym (ap (follow s) (is-end h)))
+      (λ g h. cut-head g h ∙ sym (ap (follow s) (is-cut g h)))
+      (λ h k. cut-payload h k ∙ sym (ap (follow s) (is-short h k)))
+      (λ h k. whole h k ∙ sym (ap (follow s) (is-whole h k)))
 
 -- What a loop over records needs, from the answer of `record_at`: where the record lies, and the records from there on.
 module _ (s : List ℕ) (at : ℕ) where

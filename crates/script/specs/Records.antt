@@ -1,10 +1,10 @@
 -- Records: a 4-byte payload length, a 2-byte kind and the payload (document 01, 'The script'). Scripts, lists of routes
 -- and lists of features are all records. Rests on wire.
-use Prim.Native.Nat.{ℕ, zero, suc, _+_, _-_}
+use Prim.Native.Nat.{ℕ, zero, suc, _+_}
 use mathlib.Core.List.{List, [], _∷_}
 use mathlib.Core.Bool.{cond}
 use lib.ListN.{length, take, drop}
-use lib.Dec.{leb, ltb}
+use lib.Dec.{leb}
 use Rattle.wire.specs.Le.{leAt}
 use Rattle.script.specs.declared.Found.{Found}
 use Rattle.script.specs.declared.Found.the-variants.{Record, Cut, End}
@@ -34,11 +34,13 @@ unfoldable pub records : List ℕ → List Item
 unfolding parse
 records l = parse 0 l
 
--- what stands at a place: nothing more, a record, or one that is cut in its head or in its payload
+-- the first of the records from a place on, whose payload starts after its head of 6 bytes
+unfoldable pub firstAt : ℕ → List Item → Found
+firstAt at [] = End
+firstAt at (cut ∷ rs) = Cut
+firstAt at (item k p ∷ rs) = Record k (at + 6) (length p)
+
+-- what stands at a place: the first of the records that its bytes are
 unfoldable pub recordAt : List ℕ → ℕ → Found
-recordAt s at =
-    let n = leAt 4 (drop at s) in
-    cond (leb (length s) at) End
-    (cond (ltb (length s - at) 6) Cut
-    (cond (ltb (length s - (at + 6)) n) Cut
-    (Record (leAt 2 (drop (at + 4) s)) (at + 6) n)))
+unfolding firstAt
+recordAt s at = firstAt at (records (drop at s))

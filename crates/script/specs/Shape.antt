@@ -1,15 +1,13 @@
 -- The shapes of payloads (document 01, 'The script'): what a record of each kind holds, and where. Rests on wire.
-use Prim.Native.Nat.{ℕ, _+_, _*_, _%_}
+use Prim.Native.Nat.{ℕ, _+_, _*_}
 use mathlib.Core.List.{List, [], _∷_}
 use mathlib.Core.Bool.{Bool, true, cond, not, _&&_, _||_}
 use lib.ListN.{length, take, drop}
 use lib.Dec.{eqb, leb}
 use Rattle.wire.specs.Le.{leAt}
+use Rattle.wire.specs.Even.{even}
 use Rattle.script.specs.declared.Stage.{Stage}
 use Rattle.script.specs.declared.Stage.the-variants.{Start, Columns, Leading, Infos, Rows, TextChunks, ByteChunks, Trailing}
-
-abbrev pub even : ℕ → Bool
-even n = eqb (n % 2) 0
 
 -- an info's unit counts of message, server and procedure
 abbrev pub messageUnits : List ℕ → ℕ
@@ -68,18 +66,18 @@ shaped st k p =
     (cond (eqb k 6) (chunkShaped st p) (errorShaped p))))))
 
 -- the texts of a payload: a column's name; an info's message, server and procedure; the text of a cell of value 5; an error's text
-abbrev pub message : List ℕ → List ℕ
-message p = take (2 * messageUnits p) (drop 16 p)
+abbrev pub messageText : List ℕ → List ℕ
+messageText p = take (2 * messageUnits p) (drop 16 p)
 
-abbrev pub server : List ℕ → List ℕ
-server p = take (2 * serverUnits p) (drop (16 + 2 * messageUnits p) p)
+abbrev pub serverName : List ℕ → List ℕ
+serverName p = take (2 * serverUnits p) (drop (16 + 2 * messageUnits p) p)
 
-abbrev pub procedure : List ℕ → List ℕ
-procedure p = take (2 * procedureUnits p) (drop (16 + 2 * messageUnits p + 2 * serverUnits p) p)
+abbrev pub procedureName : List ℕ → List ℕ
+procedureName p = take (2 * procedureUnits p) (drop (16 + 2 * messageUnits p + 2 * serverUnits p) p)
 
 unfoldable pub textsOf : ℕ → List ℕ → List (List ℕ)
 textsOf k p =
     cond (eqb k 2) (drop 6 p ∷ [])
-    (cond (eqb k 3 || eqb k 9) (message p ∷ server p ∷ procedure p ∷ [])
+    (cond (eqb k 3 || eqb k 9) (messageText p ∷ serverName p ∷ procedureName p ∷ [])
     (cond (eqb k 5) (cond (eqb (leAt 1 p) 5) (drop 1 p ∷ []) [])
     (cond (eqb k 7 || eqb k 8) (drop 5 p ∷ []) [])))

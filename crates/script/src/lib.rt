@@ -1,15 +1,22 @@
 // Records, and scripts made of them: which are accepted, and what each record holds (document 01, 'The script').
+use refusals::KIND_WRONG;
+use refusals::NONE;
+use refusals::RECORD_CUT;
+use refusals::SHAPE_WRONG;
+use refusals::TEXT_WRONG;
 use wire::Part;
 ghost use mathlib.Core.Path.{_≡_};
 ghost use mathlib.Core.List.{[], _∷_};
 ghost use mathlib.Core.Bool.{cond};
-ghost use lib.ListN.{drop};
-ghost use lib.Dec.{eqb};
+ghost use lib.ListN.{length, drop};
+ghost use lib.Dec.{eqb, leb};
 ghost use Rattle.wire.specs.Le.{leAt};
+ghost use Rattle.script.specs.declared.Found.the-variants as found;
+ghost use Rattle.script.specs.declared.Stage.the-variants as stages;
 ghost use Rattle.script.specs.Records.{recordAt};
-ghost use Rattle.script.specs.Order.{allowed, afterInfo, afterLeading, afterCell, cellStage, stageAfter};
-ghost use Rattle.script.specs.Shape.{columnShaped, infoShaped, numberWidth, cellShaped, chunkShaped, errorShaped, shaped, textsOf, message, server, procedure};
-ghost use Rattle.script.specs.Verdict.{allWellFormed, faultOf, endFault, verdictOf};
+ghost use Rattle.script.specs.Order.{allowed, cellStage, stageAfter};
+ghost use Rattle.script.specs.Shape.{columnShaped, infoShaped, cellShaped, chunkShaped, errorShaped, shaped, textsOf, messageText, serverName, procedureName};
+ghost use Rattle.script.specs.Verdict.{allWellFormed, faultOf, endFault, verdictOf, checkedOf};
 
 // What stands at a place: a record, whose payload starts at start and has len bytes, one that is cut, or the end.
 pub enum Found {
@@ -18,27 +25,39 @@ pub enum Found {
     End,
 }
 
-// A record's length and kind.
+// The bytes of a record's head, which is its length and its kind, and the last of them.
 const HEAD: usize = 6;
+
+const HEAD_LAST: usize = 5;
 
 // The record at a place.
 pub fn record_at(s: &[u8], at: usize) -> Found
     ensures { λ r. ⌜ r ≡ recordAt (now (s .entry)) at ⌝ }
 {
-    if s.len() <= at {
-        return Found::End;
-    }
-    if s.len() - at < HEAD {
-        return Found::Cut;
+    // at this many places a whole head may start
+    let heads = wire::left(s, HEAD_LAST);
+    if heads <= at {
+        return short_at(s, at);
     }
     let len = wire::u32_from_le_bytes(s[at], s[at + 1], s[at + 2], s[at + 3]) as usize;
-    let behind = at + 4;
-    let kind = wire::u16_from_le_bytes(s[behind], s[behind + 1]);
+    let after = at + 4;
+    let kind = wire::u16_from_le_bytes(s[after], s[after + 1]);
     let start = at + HEAD;
-    if s.len() - start < len {
+    if heads - at <= len {
         return Found::Cut;
     }
     Found::Record { kind, start, len }
+}
+
+// What stands at a place where no whole head does.
+fn short_at(s: &[u8], at: usize) -> Found
+    ensures { λ r. ⌜ r ≡ cond (leb (length (now (s .entry))) at) found.End found.Cut ⌝ }
+{
+    if s.len() <= at {
+        Found::End
+    } else {
+        Found::Cut
+    }
 }
 
 // The kinds of a script's records.
@@ -74,7 +93,7 @@ pub enum Stage {
 }
 
 // Whether a record of a kind may stand next.
-pub fn is_allowed(stage: Stage, kind: u16) -> bool
+fn is_allowed(stage: Stage, kind: u16) -> bool
     ensures { λ r. ⌜ r ≡ allowed stage kind ⌝ }
 {
     match stage {
@@ -83,31 +102,33 @@ pub fn is_allowed(stage: Stage, kind: u16) -> bool
         Stage::Leading => after_leading(kind),
         Stage::Infos => after_info(kind),
         Stage::Rows => after_cell(kind),
-        Stage::TextChunks => (kind == CHUNK) | after_cell(kind),
-        Stage::ByteChunks => (kind == CHUNK) | after_cell(kind),
+        Stage::TextChunks | Stage::ByteChunks => (kind == CHUNK) | after_cell(kind),
         Stage::Trailing => kind == TRAILING_INFO,
     }
 }
 
-fn after_info(kind: u16) -> bool
-    ensures { λ r. ⌜ r ≡ afterInfo kind ⌝ }
-{
-    (kind == SET) | (kind == INFO) | (kind == ROW) | (kind == TRAILING_INFO)
-}
-
+// Whether a kind may follow a leading error.
 fn after_leading(kind: u16) -> bool
-    ensures { λ r. ⌜ r ≡ afterLeading kind ⌝ }
+    ensures { λ r. ⌜ r ≡ allowed stages.Leading kind ⌝ }
 {
     (kind == TERMINAL_ERROR) | after_info(kind)
 }
 
-fn after_cell(kind: u16) -> bool
-    ensures { λ r. ⌜ r ≡ afterCell kind ⌝ }
+// Whether a kind may follow a terminal error or an info.
+fn after_info(kind: u16) -> bool
+    ensures { λ r. ⌜ r ≡ allowed stages.Infos kind ⌝ }
 {
-    (kind == SET) | (kind == ROW) | (kind == CELL) | (kind == TRAILING_INFO)
+    (kind == INFO) | (kind == ROW) | (kind == SET) | (kind == TRAILING_INFO)
 }
 
-// The stage behind a cell of a value.
+// Whether a kind may follow a row or a cell without chunks.
+fn after_cell(kind: u16) -> bool
+    ensures { λ r. ⌜ r ≡ allowed stages.Rows kind ⌝ }
+{
+    (kind == CELL) | (kind == ROW) | (kind == SET) | (kind == TRAILING_INFO)
+}
+
+// The stage after a cell of a value.
 fn cell_stage(value: u8) -> Stage
     ensures { λ r. ⌜ r ≡ cellStage value ⌝ }
 {
@@ -119,15 +140,13 @@ fn cell_stage(value: u8) -> Stage
     }
 }
 
-// The stage behind a record that may stand at a stage.
-pub fn stage_after(stage: Stage, kind: u16, payload: &[u8]) -> Stage
+// The stage after a record that may stand at a stage.
+fn stage_after(stage: Stage, kind: u16, payload: &[u8]) -> Stage
     ensures { λ r. ⌜ r ≡ stageAfter stage kind (now (payload .entry)) ⌝ }
 {
     match kind {
-        SET => Stage::Columns,
-        COLUMN => Stage::Columns,
-        INFO => Stage::Infos,
-        TERMINAL_ERROR => Stage::Infos,
+        SET | COLUMN => Stage::Columns,
+        INFO | TERMINAL_ERROR => Stage::Infos,
         ROW => Stage::Rows,
         CELL => cell_stage(wire::get_u8(payload, 0)),
         CHUNK => stage,
@@ -144,7 +163,7 @@ fn column_shaped(p: &[u8]) -> bool
     (6 <= p.len()) & (p.len() % 2 == 0) & (1 <= data_type) & (data_type <= 8)
 }
 
-// An info's payload: six numbers, three counts of units, three texts.
+// An info's payload: number, state, severity, line, three counts of units, three texts.
 fn info_shaped(p: &[u8]) -> bool
     ensures { λ r. ⌜ r ≡ infoShaped (now (p .entry)) ⌝ }
 {
@@ -154,31 +173,19 @@ fn info_shaped(p: &[u8]) -> bool
     (16 <= p.len()) & (p.len() == 16 + 2 * (message + server + procedure))
 }
 
-// How many bytes the number of a cell of value 1 to 4 has.
-pub fn number_width(value: u8) -> u8
-    ensures { λ r. ⌜ r ≡ numberWidth value ⌝ }
-{
-    match value {
-        1 => 1,
-        2 => 2,
-        3 => 4,
-        _ => 8,
-    }
-}
-
 // A cell's payload: value byte, then its number or text.
 fn cell_shaped(p: &[u8]) -> bool
     ensures { λ r. ⌜ r ≡ cellShaped (now (p .entry)) ⌝ }
 {
     let value = wire::get_u8(p, 0);
-    let width = number_width(value);
-    if (1 <= value) & (value <= 4) {
-        return p.len() == 1 + width as usize;
+    match value {
+        1 => p.len() == 2,
+        2 => p.len() == 3,
+        3 => p.len() == 5,
+        4 => p.len() == 9,
+        5 => !(p.len() % 2 == 0),
+        _ => (6 <= value) & (value <= 10) & (p.len() == 1),
     }
-    if value == 5 {
-        return !(p.len() % 2 == 0);
-    }
-    (6 <= value) & (value <= 10) & (p.len() == 1)
 }
 
 // A chunk's payload, which under a cell of value 6 holds whole units.
@@ -187,13 +194,7 @@ fn chunk_shaped(stage: Stage, p: &[u8]) -> bool
 {
     match stage {
         Stage::TextChunks => p.len() % 2 == 0,
-        Stage::Start => true,
-        Stage::Columns => true,
-        Stage::Leading => true,
-        Stage::Infos => true,
-        Stage::Rows => true,
-        Stage::ByteChunks => true,
-        Stage::Trailing => true,
+        _ => true,
     }
 }
 
@@ -204,8 +205,9 @@ fn error_shaped(p: &[u8]) -> bool
     (5 <= p.len()) & !(p.len() % 2 == 0)
 }
 
-// Whether a payload has the shape of its kind, which may stand at a stage.
-pub fn is_shaped(stage: Stage, kind: u16, p: &[u8]) -> bool
+// Whether a payload has the shape of its kind, which may stand at a stage. Arms that say the same stand apart here and
+// below: joined, they make rows dearer.
+fn is_shaped(stage: Stage, kind: u16, p: &[u8]) -> bool
     ensures { λ r. ⌜ r ≡ shaped stage kind (now (p .entry)) ⌝ }
 {
     match kind {
@@ -220,20 +222,9 @@ pub fn is_shaped(stage: Stage, kind: u16, p: &[u8]) -> bool
     }
 }
 
-// Refusals of the script's author, 11 to 14. 0 stands for none.
-pub const NONE: u8 = 0;
-// A record is cut.
-pub const RECORD_CUT: u8 = 11;
-// A kind is unknown or out of order, or a script has no set.
-pub const KIND_WRONG: u8 = 12;
-// A payload has a wrong shape.
-pub const SHAPE_WRONG: u8 = 13;
-// A text is not UTF-16.
-pub const TEXT_WRONG: u8 = 14;
-
 // Whether the three texts of an info are UTF-16.
 fn info_texts_ok(p: &[u8]) -> bool
-    ensures { λ r. ⌜ r ≡ allWellFormed (message (now (p .entry)) ∷ server (now (p .entry)) ∷ procedure (now (p .entry)) ∷ []) ⌝ }
+    ensures { λ r. ⌜ r ≡ allWellFormed (messageText (now (p .entry)) ∷ serverName (now (p .entry)) ∷ procedureName (now (p .entry)) ∷ []) ⌝ }
 {
     let text = text::is_well_formed(info_message(p));
     let server = text::is_well_formed(info_server(p));
@@ -243,14 +234,14 @@ fn info_texts_ok(p: &[u8]) -> bool
 
 // The texts of an info.
 pub fn info_message(p: &[u8]) -> &[u8]
-    ensures { λ r. ⌜ now r ≡ message (now (p .entry)) ⌝ }
+    ensures { λ r. ⌜ now r ≡ messageText (now (p .entry)) ⌝ }
 {
     let len = 2 * wire::get_u16_le(p, 10) as usize;
     wire::part_of(p, Part { start: 16, len })
 }
 
 pub fn info_server(p: &[u8]) -> &[u8]
-    ensures { λ r. ⌜ now r ≡ server (now (p .entry)) ⌝ }
+    ensures { λ r. ⌜ now r ≡ serverName (now (p .entry)) ⌝ }
 {
     let start = 16 + 2 * wire::get_u16_le(p, 10) as usize;
     let len = 2 * wire::get_u16_le(p, 12) as usize;
@@ -258,15 +249,15 @@ pub fn info_server(p: &[u8]) -> &[u8]
 }
 
 pub fn info_procedure(p: &[u8]) -> &[u8]
-    ensures { λ r. ⌜ now r ≡ procedure (now (p .entry)) ⌝ }
+    ensures { λ r. ⌜ now r ≡ procedureName (now (p .entry)) ⌝ }
 {
     let start = 16 + 2 * wire::get_u16_le(p, 10) as usize + 2 * wire::get_u16_le(p, 12) as usize;
     let len = 2 * wire::get_u16_le(p, 14) as usize;
     wire::part_of(p, Part { start, len })
 }
 
-// What is behind the first n bytes of a payload.
-pub fn behind(p: &[u8], n: usize) -> &[u8]
+// What follows the first n bytes of a payload.
+pub fn rest_after(p: &[u8], n: usize) -> &[u8]
     ensures { λ r. ⌜ now r ≡ drop n (now (p .entry)) ⌝ }
 {
     if p.len() < n {
@@ -275,11 +266,11 @@ pub fn behind(p: &[u8], n: usize) -> &[u8]
     &p[n..]
 }
 
-// Whether the text behind the first n bytes of a payload is UTF-16.
+// Whether the text after the first n bytes of a payload is UTF-16.
 fn text_ok(p: &[u8], n: usize) -> bool
     ensures { λ r. ⌜ r ≡ allWellFormed (drop n (now (p .entry)) ∷ []) ⌝ }
 {
-    text::is_well_formed(behind(p, n))
+    text::is_well_formed(rest_after(p, n))
 }
 
 // Whether the text of a cell, where it has one, is UTF-16.
@@ -307,8 +298,43 @@ fn texts_ok(kind: u16, p: &[u8]) -> bool
     }
 }
 
-// A record's refusal at a stage, or none.
+// A record's refusal at a stage, or none. Rows and cells, which are many, go by their kind first.
 fn fault(stage: Stage, kind: u16, p: &[u8]) -> u8
+    ensures { λ r. ⌜ r ≡ faultOf stage kind (now (p .entry)) ⌝ }
+{
+    match kind {
+        ROW => row_fault(stage, p),
+        CELL => cell_fault(stage, p),
+        _ => other_fault(stage, kind, p),
+    }
+}
+
+// A row's refusal, a cell's, and that of a record of any kind.
+fn row_fault(stage: Stage, p: &[u8]) -> u8
+    ensures { λ r. ⌜ r ≡ faultOf stage 4 (now (p .entry)) ⌝ }
+{
+    if !is_allowed(stage, ROW) {
+        return KIND_WRONG;
+    }
+    if p.len() == 0 { NONE } else { SHAPE_WRONG }
+}
+
+fn cell_fault(stage: Stage, p: &[u8]) -> u8
+    ensures { λ r. ⌜ r ≡ faultOf stage 5 (now (p .entry)) ⌝ }
+{
+    if !is_allowed(stage, CELL) {
+        return KIND_WRONG;
+    }
+    if !cell_shaped(p) {
+        return SHAPE_WRONG;
+    }
+    if !cell_text_ok(p) {
+        return TEXT_WRONG;
+    }
+    NONE
+}
+
+fn other_fault(stage: Stage, kind: u16, p: &[u8]) -> u8
     ensures { λ r. ⌜ r ≡ faultOf stage kind (now (p .entry)) ⌝ }
 {
     if !is_allowed(stage, kind) {
@@ -329,18 +355,29 @@ fn end_fault(stage: Stage) -> u8
 {
     match stage {
         Stage::Start => KIND_WRONG,
-        Stage::Columns => NONE,
-        Stage::Leading => NONE,
-        Stage::Infos => NONE,
-        Stage::Rows => NONE,
-        Stage::TextChunks => NONE,
-        Stage::ByteChunks => NONE,
-        Stage::Trailing => NONE,
+        _ => NONE,
     }
 }
 
+// A script that is accepted as far as its records go, or its refusal, 11 to 14.
+pub enum Checked {
+    Accepted,
+    Refused(u8),
+}
+
+// Whether a script is accepted.
+pub fn verdict(s: &[u8]) -> Checked
+    ensures { λ r. ⌜ r ≡ checkedOf (now (s .entry)) ⌝ }
+{
+    let number = script_fault(s);
+    if number == NONE {
+        return Checked::Accepted;
+    }
+    Checked::Refused(number)
+}
+
 // A script's refusal, 11 to 14, or none: one pass over its records.
-pub fn verdict(s: &[u8]) -> u8
+fn script_fault(s: &[u8]) -> u8
     ensures { λ r. ⌜ r ≡ verdictOf (now (s .entry)) ⌝ }
 {
     let mut at: usize = 0;

@@ -13,12 +13,13 @@ use mir.Val.{toZ, ofZ}
 use mir.Facts.{toZ-ofZ, toZ-pos}
 use borrow.Author.Tests.{ltb-false, leb-true, eqb-true, eqb-false, not-true}
 use Rattle.script.specs.Verdict.{verdictOf}
-use Rattle.result.specs.Emission.{pieces, replyOf}
-use Rattle.result.specs.Refusal.{faultIn, refusalOf, builtOf}
+use Rattle.emission.specs.Emission.{pieces, replyOf}
+use Rattle.emission.specs.Refusal.{faultIn, refusalOf}
+use Rattle.result.specs.Built.{builtOf}
 use Rattle.result.specs.Room.{isRoom}
 use Rattle.result.specs.declared.Built.{Built}
 use Rattle.result.specs.declared.Built.the-variants.{Written, Refused}
-use Rattle.result.specs.declared.Room.the-variants.{Bytes, Denied}
+use Rattle.result.specs.declared.Room.the-variants.{Bytes, Refused as RoomRefused}
 use Rattle.wire.proofs.Cases.{by-test}
 use Rattle.station.specs.Answer.{refuses, numberOf}
 use Rattle.station.specs.Results.{roomTold}
@@ -67,10 +68,10 @@ unfolding roomTold
 room-told s n e = let h : n < 2 ^ 63 = omega (arith, room-short s n e) in rw (toZ-pos w64 h) e
 
 -- and its refusal, which is not 0
-pub room-denied : (s : List ℕ) (n : ℕ) {r : ℤ} → isRoom s (Denied n) ≡ true → mag r < 2 ^ 63 → r ≡ numberOf (refuses n)
+pub room-refused : (s : List ℕ) (n : ℕ) {r : ℤ} → isRoom s (RoomRefused n) ≡ true → mag r < 2 ^ 63 → r ≡ numberOf (refuses n)
     → isRoom s (roomTold (toZ w64 (ofZ w64 r))) ≡ true
 unfolding roomTold numberOf
-room-denied s zero e fits q =
+room-refused s zero e fits q =
     let h = both (not (eqb (refusalOf s) 0)) _ e in
     absurd (eqb-false (refusalOf s) 0 (not-true _ (h .0)) (sym (eqb-true 0 (refusalOf s) (h .1))))
-room-denied s (suc n) e fits q = rw (toZ-ofZ {w = w64} (record { sfits = fits }) ∙ q) e
+room-refused s (suc n) e fits q = rw (toZ-ofZ {w = w64} (record { sfits = fits }) ∙ q) e

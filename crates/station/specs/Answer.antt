@@ -5,6 +5,7 @@ use mathlib.Core.List.{List, [], _∷_}
 use lib.ListN.{length}
 use lib.Dec.{ltb}
 use lib.IntN.{ℤ, pos, negℤ}
+use Rattle.refusals.specs.Numbers.{bufferTooShort}
 use Rattle.wire.specs.Over.{overwrite}
 use Rattle.wire.specs.declared.Part.{Part}
 
@@ -24,7 +25,7 @@ numberOf (refuses n) = negℤ (pos n)
 
 -- with slots lent: 20 where they are too few, after all other refusals
 unfoldable pub lent : Outcome → List ℕ → Outcome
-lent (answers n xs) out = cond (ltb (length out) (length xs)) (refuses 20) (answers n xs)
+lent (answers n xs) out = cond (ltb (length out) (length xs)) (refuses bufferTooShort) (answers n xs)
 lent (refuses n) out = refuses n
 
 -- the lent slots, the outcome's values first; a refusal leaves them

@@ -1,7 +1,11 @@
 -- What the exports that build replies answer: how many bytes were written, or a refusal. Rests on the definitions of `response`.
+use mathlib.Core.Bool.{cond}
 use mathlib.Core.List.{List, []}
 use Prim.Native.Nat.{ℕ}
+use lib.Dec.{ltb}
 use lib.IntN.{ℤ}
+use Rattle.response.specs.declared.Acknowledgement.{Acknowledgement}
+use Rattle.response.specs.declared.Acknowledgement.the-variants.{IsEnabled, Missing}
 use Rattle.response.specs.declared.Built.{Built}
 use Rattle.response.specs.declared.Built.the-variants.{Written, Refused}
 use Rattle.response.specs.Answer.{Reply, builtOf}
@@ -15,3 +19,7 @@ builtOutcome (Refused n) = refuses n
 -- the number of a reply for a lent buffer
 unfoldable pub builtNumber : Reply → List ℕ → ℤ
 builtNumber p buf = numberOf (builtOutcome (builtOf p buf))
+
+-- the acknowledgement of enhanced routing that a number stands for: its byte IsEnabled; none from 256 on
+unfoldable pub ackOf : ℕ → Acknowledgement
+ackOf n = cond (ltb n 256) (IsEnabled n) Missing

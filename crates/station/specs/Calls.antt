@@ -1,12 +1,12 @@
 -- What each export answers. Rests on the definitions of the crates that they call.
-use Prim.Native.Nat.{ℕ, _%_}
+use Prim.Native.Nat.{ℕ}
 use mathlib.Core.Bool.{cond}
 use mathlib.Core.List.{List, [], _∷_}
-use lib.ListN.{length}
 use lib.Dec.{eqb}
 use Rattle.text.specs.Units.{units}
-use Rattle.text.specs.Surrogates.{wellFormed, characters, utf8Length, hasPair}
+use Rattle.text.specs.Surrogates.{characters, utf8Length, hasPair}
 use Rattle.text.specs.Space.{isWhitespace}
+use Rattle.text.specs.Arguments.{textFault}
 use Rattle.packet.specs.declared.Parsed.{Parsed}
 use Rattle.packet.specs.declared.Parsed.the-variants.{Header, Refused}
 use Rattle.packet.specs.Types.{byteOf}
@@ -31,4 +31,4 @@ textOutcome s = answers 0 (units s ∷ characters s ∷ utf8Length s ∷ cond (h
 
 -- 21 of an odd number of bytes, 22 of a text that is not UTF-16
 unfoldable pub textCall : List ℕ → Outcome
-textCall s = cond (eqb (length s % 2) 1) (refuses 21) (cond (wellFormed s) (textOutcome s) (refuses 22))
+textCall s = cond (eqb (textFault s) 0) (textOutcome s) (refuses (textFault s))

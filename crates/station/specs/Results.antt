@@ -2,11 +2,11 @@
 use Prim.Native.Nat.{ℕ, suc}
 use mathlib.Core.List.{List, [], _∷_}
 use lib.IntN.{ℤ, pos, negsuc}
-use Rattle.result.specs.Refusal.{builtOf}
+use Rattle.result.specs.Built.{builtOf}
 use Rattle.result.specs.declared.Built.{Built}
 use Rattle.result.specs.declared.Built.the-variants.{Written, Refused as BuiltRefused}
 use Rattle.result.specs.declared.Room.{Room}
-use Rattle.result.specs.declared.Room.the-variants.{Bytes, Denied}
+use Rattle.result.specs.declared.Room.the-variants.{Bytes, Refused as RoomRefused}
 use Rattle.fit.specs.Misfits.{fitOf}
 use Rattle.fit.specs.declared.Misfit.{Misfit}
 use Rattle.fit.specs.declared.Misfit.the-variants.{Classification, Column, Cell}
@@ -26,7 +26,7 @@ builtCall s room = builtOutcome (builtOf s room)
 -- the room estimate that an i64 tells: room for so many bytes, or by -N the refusal N
 unfoldable pub roomTold : ℤ → Room
 roomTold (pos n) = Bytes n
-roomTold (negsuc n) = Denied (suc n)
+roomTold (negsuc n) = RoomRefused (suc n)
 
 -- 1 with a misfit's kind (1 classification, 2 column, 3 cell), set, row and column, 0 where there is none
 abbrev pub misfitOutcome : Misfit → Outcome

@@ -7,8 +7,9 @@ ghost use Rattle.script.specs.Records.{records};
 ghost use Rattle.response.specs.Answer.{bufferOf};
 ghost use Rattle.response.specs.Replies.{preloginReply, fedauthAckReply, classificationAckReply, featuresReply, routingAckReply, challengeReply, fedauthInfoReply, loginAckReply, doneReply, attentionReply, transactionReply, infoReply, errorTokensReply, errorReply, routeReply, routingReply, databaseRouteReply, routingLoginReply};
 ghost use Rattle.station.specs.Answer.{numberOf};
-ghost use Rattle.station.specs.Builds.{builtOutcome, builtNumber};
+ghost use Rattle.station.specs.Builds.{builtOutcome, builtNumber, ackOf};
 use crate::slots::refused;
+use response::Acknowledgement;
 use response::Built;
 
 // The number of a builder's answer.
@@ -105,7 +106,7 @@ pub extern "C" fn station_build_feature_ext_ack_enhanced_routing(
     tell(response::build_feature_ext_ack_enhanced_routing(is_enabled, buf))
 }
 
-// FEDAUTHINFO, in a packet behind the acknowledgement of FEDAUTH, and by itself.
+// FEDAUTHINFO, in a packet after the acknowledgement of FEDAUTH, and by itself.
 #[no_mangle]
 pub extern "C" fn station_build_fedauth_challenge_response(
     sts_url: &[u8],
@@ -284,6 +285,18 @@ pub extern "C" fn station_build_enhanced_routing_envchange_token(
     ))
 }
 
+// From here on a number stands for no acknowledgement of enhanced routing.
+const NO_ACK: u16 = 256;
+
+fn acknowledgement(ack: u16) -> Acknowledgement
+    ensures { λ r. ⌜ r ≡ ackOf ack ⌝ }
+{
+    if NO_ACK <= ack {
+        return Acknowledgement::Missing;
+    }
+    Acknowledgement::IsEnabled(ack as u8)
+}
+
 #[no_mangle]
 pub extern "C" fn station_build_routing_login_response(
     redirect_host: &[u8],
@@ -294,15 +307,15 @@ pub extern "C" fn station_build_routing_login_response(
     ack_before_routing: bool,
     buf: &mut [u8],
 ) -> i64
-    ensures { λ r. ⌜ r ≡ builtNumber (routingLoginReply (now («redirect_host» .entry)) «redirect_port» (records (now (routes .entry))) «login_ack» ack «ack_before_routing») (now (buf .entry)) ⌝ }
-    ensures { λ _. ⌜ now (buf .exit) ≡ bufferOf (routingLoginReply (now («redirect_host» .entry)) «redirect_port» (records (now (routes .entry))) «login_ack» ack «ack_before_routing») (now (buf .entry)) ⌝ }
+    ensures { λ r. ⌜ r ≡ builtNumber (routingLoginReply (now («redirect_host» .entry)) «redirect_port» (records (now (routes .entry))) «login_ack» (ackOf ack) «ack_before_routing») (now (buf .entry)) ⌝ }
+    ensures { λ _. ⌜ now (buf .exit) ≡ bufferOf (routingLoginReply (now («redirect_host» .entry)) «redirect_port» (records (now (routes .entry))) «login_ack» (ackOf ack) «ack_before_routing») (now (buf .entry)) ⌝ }
 {
     tell(response::build_routing_login_response(
         redirect_host,
         redirect_port,
         routes,
         login_ack,
-        ack,
+        acknowledgement(ack),
         ack_before_routing,
         buf,
     ))

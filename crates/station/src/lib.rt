@@ -8,6 +8,7 @@ mod requests;
 mod results;
 mod slots;
 
+use refusals::NONE;
 ghost use mathlib.Core.Path.{_≡_};
 ghost use Rattle.station.specs.Answer.{numberOf, answerOf, slotsOf};
 ghost use Rattle.station.specs.Calls.{headerOutcome, headerCall, whitespaceCall, textOutcome, textCall};
@@ -16,12 +17,6 @@ use packet::Parsed;
 use slots::answered;
 use slots::flag;
 use slots::refused;
-
-// Refusals that the caller causes.
-// A text argument of an odd number of bytes.
-const ODD_TEXT: u8 = 21;
-// A text argument that is not UTF-16.
-const NOT_UTF16: u8 = 22;
 
 // 0: type, status, length, spid, number and window of a packet header.
 #[no_mangle]
@@ -65,11 +60,9 @@ pub extern "C" fn station_text(text: &[u8], out: &mut [u64]) -> i64
     ensures { λ r. ⌜ r ≡ answerOf (textCall (now (text .entry))) (now (out .entry)) ⌝ }
     ensures { λ _. ⌜ now (out .exit) ≡ slotsOf (textCall (now (text .entry))) (now (out .entry)) ⌝ }
 {
-    if text.len() % 2 != 0 {
-        return refused(ODD_TEXT);
-    }
-    if !text::is_well_formed(text) {
-        return refused(NOT_UTF16);
+    let fault = text::text_fault(text);
+    if fault != NONE {
+        return refused(fault);
     }
     tell_text(text, out)
 }

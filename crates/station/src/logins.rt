@@ -1,10 +1,10 @@
 // Logins, and the database to open.
+use refusals::BUFFER_TOO_SHORT;
 ghost use mathlib.Core.Path.{_≡_};
 ghost use Prim.Native.Nat.{_<_, _^_};
 ghost use lib.ListN.{length};
 ghost use Rattle.station.specs.Answer.{answers, answerOf, slotsOf};
 ghost use Rattle.station.specs.Logins.{byteSlot, partSlots, loginSlots, loginCall, idsLeft, databaseCall};
-use crate::slots::TOO_FEW_SLOTS;
 use crate::slots::answered;
 use crate::slots::answered_part;
 use crate::slots::flag;
@@ -34,7 +34,7 @@ pub extern "C" fn station_parse_login7(body: &[u8], ids: &mut [u8], out: &mut [u
     ensures { λ _. ⌜ now (out .exit) ≡ slotsOf (loginCall (now (body .entry)) (length (now (ids .entry)))) (now (out .entry)) ⌝ }
 {
     if out.len() < LOGIN_SLOTS {
-        return refused(TOO_FEW_SLOTS);
+        return refused(BUFFER_TOO_SHORT);
     }
     match login::parse_login7(body, ids) {
         Answer::Read { login, ids: count } => tell_login(login, count, out),

@@ -2,7 +2,7 @@
 ghost use mathlib.Core.Path.{_≡_};
 ghost use mathlib.Core.Bool.{true};
 ghost use lib.ListN.{length};
-ghost use Rattle.result.specs.Refusal.{bufferOf};
+ghost use Rattle.result.specs.Built.{bufferOf};
 ghost use Rattle.result.specs.Room.{isRoom};
 ghost use Rattle.station.specs.Answer.{numberOf, answerOf, slotsOf};
 ghost use Rattle.station.specs.Results.{builtCall, roomTold, misfitOutcome, fitCall};
@@ -60,7 +60,7 @@ pub extern "C" fn station_room(script: &[u8]) -> i64
 {
     match result::room_estimate(script) {
         Room::Bytes(room) => room as i64,
-        Room::Denied(number) => refused(number),
+        Room::Refused(number) => refused(number),
     }
 }
 

@@ -1,12 +1,10 @@
 // How an export ends: with its number and its slots, or with a refusal.
+use refusals::BUFFER_TOO_SHORT;
 use wire::Part;
 ghost use mathlib.Core.Path.{_≡_};
 ghost use mathlib.Core.Bool.{cond};
 ghost use Prim.Native.Nat.{_<_, _^_};
 ghost use Rattle.station.specs.Answer.{answers, answersPart, refuses, numberOf, answerOf, slotsOf};
-
-// The lent slots are too few.
-pub(crate) const TOO_FEW_SLOTS: u8 = 20;
 
 // The last step of an export that has slots, after all its other refusals: its number, and the values of the first slots.
 pub(crate) fn answered(out: &mut [u64], number: usize, values: &[u64]) -> i64
@@ -15,7 +13,7 @@ pub(crate) fn answered(out: &mut [u64], number: usize, values: &[u64]) -> i64
     ensures { λ _. ⌜ now (out .exit) ≡ slotsOf (answers number (now (values .entry))) (now (out .entry)) ⌝ }
 {
     if out.len() < values.len() {
-        return refused(TOO_FEW_SLOTS);
+        return refused(BUFFER_TOO_SHORT);
     }
     let mut i = 0;
     while i < values.len() {

@@ -10,7 +10,7 @@ use lib.ListN.{length, drop, getD, length-drop}
 use lib.Seq.{drop-drop, drop-nil, drop-cons}
 use Rattle.wire.specs.Le.{leAt}
 use Rattle.wire.proofs.Le.{le-bytes}
-use Rattle.text.specs.Units.{unitsOf, total}
+use Rattle.text.specs.Units.{unitsOf, units, total}
 use Rattle.text.specs.Surrogates.{surrogateOf, surrogates, paired}
 use Rattle.text.specs.declared.Surrogate.{Surrogate}
 use Rattle.text.specs.declared.Surrogate.the-variants.{High}
@@ -74,6 +74,11 @@ unfolding unitsOf
 length-units [] = refl
 length-units (a ∷ []) = refl
 length-units (a ∷ b ∷ l) = omega (arith, length-units l)
+
+-- a unit for every two bytes
+pub units-half : (s : List ℕ) → units s ≡ length s / 2
+unfolding units
+units-half s = length-units s
 
 -- the units from number n on are those from byte 2 n on
 pub units-from : (n : ℕ) (s : List ℕ) → unitsOf (drop (2 * n) s) ≡ drop n (unitsOf s)

@@ -1,15 +1,14 @@
 -- Surrogates: when a text is UTF-16 (RFC 2781, 2.2), and what its units count as characters and as UTF-8 bytes
 -- (document 01: the Rust's `chars().count()` and `str::len`). Rests on Units.
-use Prim.Native.Nat.{ℕ, _%_}
+use Prim.Native.Nat.{ℕ}
 use mathlib.Core.List.{List, [], _∷_, map}
 use mathlib.Core.Bool.{Bool, true, false, cond, _&&_}
-use lib.Dec.{ltb, eqb}
+use lib.Dec.{ltb}
 use lib.ListN.{length}
+use Rattle.wire.specs.Even.{even}
 use Rattle.text.specs.Units.{unitsOf, total, within}
 use Rattle.text.specs.declared.Surrogate.{Surrogate}
 use Rattle.text.specs.declared.Surrogate.the-variants.{Plain, High, Low}
-use Rattle.text.specs.declared.Count.{Count}
-use Rattle.text.specs.declared.Count.the-variants.{Characters, Utf8Bytes}
 
 -- a high surrogate, the first of a pair
 abbrev pub isHigh : ℕ → Bool
@@ -46,7 +45,7 @@ surrogates s = map surrogateOf (unitsOf s)
 
 -- a text that is UTF-16: an even number of bytes, and surrogates in pairs
 unfoldable pub wellFormed : List ℕ → Bool
-wellFormed s = eqb (length s % 2) 0 && paired (surrogates s)
+wellFormed s = even (length s) && paired (surrogates s)
 
 -- a high surrogate stands in a text
 unfoldable pub hasPair : List ℕ → Bool
@@ -67,8 +66,3 @@ utf8In u = cond (ltb u 0x80) 1 (cond (ltb u 0x800) 2 (cond (within 0xd800 0xdfff
 -- how many bytes a text has as UTF-8
 unfoldable pub utf8Length : List ℕ → ℕ
 utf8Length s = total utf8In (unitsOf s)
-
--- what a unit counts as
-abbrev pub countIn : Count → ℕ → ℕ
-countIn Characters u = charactersIn u
-countIn Utf8Bytes u = utf8In u

@@ -1,14 +1,19 @@
 // UTF-16LE text: units, surrogates, lengths, white space and trimming.
 // A text is any bytes: two are a unit, the lower first, and an odd last byte belongs to none.
+use refusals::NONE;
+use refusals::NOT_UTF16;
+use refusals::ODD_TEXT;
 use wire::Part;
 ghost use mathlib.Core.Path.{_≡_};
 ghost use mathlib.Core.List.{_∷_};
 ghost use Prim.Native.Nat.{_+_, _*_, _≤_, _<_};
 ghost use lib.ListN.{length, drop};
 ghost use Rattle.text.specs.Units.{unitsOf, units, total};
-ghost use Rattle.text.specs.Surrogates.{surrogateOf, wellFormed, hasPair, charactersIn, characters, utf8In, utf8Length, countIn};
+ghost use Rattle.text.specs.Surrogates.{surrogateOf, wellFormed, hasPair, charactersIn, characters, utf8In, utf8Length};
 ghost use Rattle.text.specs.Space.{isWhitespace};
 ghost use Rattle.text.specs.Trim.{leading, kept, trimmed};
+ghost use Rattle.text.specs.Arguments.{textFault};
+ghost use Rattle.text.specs.Inner.{countIn};
 
 // What a unit is: half of a surrogate pair, the high one or the low one, or a character of its own.
 pub enum Surrogate {
@@ -85,10 +90,7 @@ pub fn has_pair(s: &[u8]) -> bool
             Surrogate::High => {
                 return true;
             }
-            Surrogate::Plain => {
-                at = next;
-            }
-            Surrogate::Low => {
+            Surrogate::Plain | Surrogate::Low => {
                 at = next;
             }
         }
@@ -220,4 +222,17 @@ fn trim_end(s: &[u8]) -> usize
         n -= 1;
     }
     0
+}
+
+// The refusal of a text argument, or none.
+pub fn text_fault(text: &[u8]) -> u8
+    ensures { λ r. ⌜ r ≡ textFault (now (text .entry)) ⌝ }
+{
+    if text.len() % 2 != 0 {
+        return ODD_TEXT;
+    }
+    if !is_well_formed(text) {
+        return NOT_UTF16;
+    }
+    NONE
 }

@@ -9,7 +9,7 @@ use Rattle.wire.specs.Fields.{Field, word, raw, flat}
 use Rattle.wire.proofs.Over.{wrote-as}
 use Rattle.wire.proofs.Le.{le-mod}
 use Rattle.wire.proofs.Fields.{flat-cat}
-use Rattle.token.specs.Tokens.{Token, metadata, column, row, cell, done, message, Sent, integer, noInteger, bounded, long, noLong, putChunks, put, bytesOf, joined, messageHead, typeFields}
+use Rattle.token.specs.Tokens.{Token, metadata, column, row, cell, done, message, EncodedCell, integer, noInteger, bounded, long, noLong, putChunks, put, tokenBytes, joined, messageHead, typeFields}
 use Rattle.token.specs.Types.{lengthWidth}
 use borrow.Author.Tests.{ne-eqb}
 
@@ -22,7 +22,7 @@ pub chunks-before : (cs : List (List ℕ)) (fs : List Field) → putChunks cs fs
 chunks-before [] fs = refl
 chunks-before (c ∷ cs) fs = ap (λ (r : List Field). word 4 (length c) ∷ raw c ∷ r) (chunks-before cs fs)
 
-pub put-before : (t : Token Sent) (fs : List Field) → put t fs ≡ put t [] ++ fs
+pub put-before : (t : Token EncodedCell) (fs : List Field) → put t fs ≡ put t [] ++ fs
 put-before (metadata n) fs = refl
 put-before (column u f c l o n) fs = refl
 put-before row fs = refl
@@ -35,8 +35,8 @@ put-before (done s c n) fs = refl
 put-before (message k n s c t v p l) fs = refl
 
 -- a token's bytes before others
-pub bytes-before : (t : Token Sent) (fs : List Field) → flat (put t fs) ≡ bytesOf t ++ flat fs
-unfolding bytesOf
+pub bytes-before : (t : Token EncodedCell) (fs : List Field) → flat (put t fs) ≡ tokenBytes t ++ flat fs
+unfolding tokenBytes
 bytes-before t fs = ap flat (put-before t fs) ∙ flat-cat (put t []) fs
 
 -- a message's length by its low bytes

@@ -1,3 +1,4 @@
 pub mod Types
 pub mod Tokens
 pub mod Values
+pub mod Names

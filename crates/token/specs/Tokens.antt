@@ -7,6 +7,7 @@ use lib.IntN.{ℤ, pos, negsuc}
 use lib.ListN.{length}
 use lib.Dec.{eqb, ltb}
 use Rattle.wire.specs.Fields.{Field, word, raw, flat}
+use Rattle.text.specs.Units.{units}
 use Rattle.text.specs.Surrogates.{characters}
 use Rattle.token.specs.Types.{lengthWidth}
 
@@ -21,12 +22,12 @@ pub data Token (C : Type 0) : Type 0 where
   message : (kind number state class : ℕ) (text server procedure : List ℕ) (line : ℕ) → Token C
 
 -- a cell as it is sent: an integer of w bytes, a bounded text, a Max value in chunks, and the nulls of integers and of Max values
-pub data Sent : Type 0 where
-  integer : (w n : ℕ) → Sent
-  noInteger : Sent
-  bounded : List ℕ → Sent
-  long : List (List ℕ) → Sent
-  noLong : Sent
+pub data EncodedCell : Type 0 where
+  integer : (w n : ℕ) → EncodedCell
+  noInteger : EncodedCell
+  bounded : List ℕ → EncodedCell
+  long : List (List ℕ) → EncodedCell
+  noLong : EncodedCell
 
 -- a cell's value: number, part, null (document 01)
 pub data Value : Type 0 where
@@ -44,7 +45,7 @@ joined [] = []
 joined (c ∷ cs) = c ++ joined cs
 
 -- what a cell that is sent states
-abbrev pub valueOf : Sent → Value
+abbrev pub valueOf : EncodedCell → Value
 valueOf (integer w n) = number (signed w n)
 valueOf noInteger = null
 valueOf (bounded x) = part x
@@ -52,7 +53,7 @@ valueOf (long cs) = part (joined cs)
 valueOf noLong = null
 
 -- what a token that is sent states
-abbrev pub states : Token Sent → Token Value
+abbrev pub states : Token EncodedCell → Token Value
 states (metadata n) = metadata n
 states (column u f c l o n) = column u f c l o n
 states row = row
@@ -67,16 +68,12 @@ abbrev pub putChunks : List (List ℕ) → List Field → List Field
 putChunks [] fs = word 4 0 ∷ fs
 putChunks (c ∷ cs) fs = word 4 (length c) ∷ raw c ∷ putChunks cs fs
 
-abbrev pub putCell : Sent → List Field → List Field
+abbrev pub putCell : EncodedCell → List Field → List Field
 putCell (integer w n) fs = word 1 w ∷ word w n ∷ fs
 putCell noInteger fs = word 1 0 ∷ fs
 putCell (bounded x) fs = word 2 (length x) ∷ raw x ∷ fs
 putCell (long cs) fs = word 8 (length (joined cs)) ∷ putChunks cs fs
 putCell noLong fs = word 8 0xFFFFFFFFFFFFFFFF ∷ fs
-
--- the units of a text
-abbrev pub unitCount : List ℕ → ℕ
-unitCount x = length x / 2
 
 -- the count before a column's name: characters, as the Rust writes it, where MS-TDS has units
 unfoldable pub nameCount : List ℕ → ℕ
@@ -86,22 +83,22 @@ nameCount name = characters name
 unfoldable pub messageLength : List ℕ → List ℕ → List ℕ → ℕ
 messageLength text server procedure = 14 + length text + length server + length procedure
 
--- US_VARCHAR and B_VARCHAR (MS-TDS 2.2.5.1.2): a text behind its count of units, in two bytes and in one
+-- US_VARCHAR and B_VARCHAR of MS-TDS: a text after its count of units, in two bytes and in one
 abbrev pub usVarchar : List ℕ → List Field → List Field
-usVarchar t fs = word 2 (unitCount t) ∷ raw t ∷ fs
+usVarchar t fs = word 2 (units t) ∷ raw t ∷ fs
 
 abbrev pub bVarchar : List ℕ → List Field → List Field
-bVarchar t fs = word 1 (unitCount t) ∷ raw t ∷ fs
+bVarchar t fs = word 1 (units t) ∷ raw t ∷ fs
 
 -- a message up to its texts
 abbrev pub messageHead : ℕ → ℕ → ℕ → ℕ → ℕ → List Field → List Field
 messageHead kind size n state class fs = word 1 kind ∷ word 2 size ∷ word 4 n ∷ word 1 state ∷ word 1 class ∷ fs
 
--- TYPE_INFO behind user type 0 and flags 0, as far as every type has it: the code and the length
+-- TYPE_INFO after user type 0 and flags 0, as far as every type has it: the code and the length
 abbrev pub typeFields : ℕ → ℕ → ℕ → ℕ → List Field → List Field
 typeFields u f code limit fs = word 4 u ∷ word 2 f ∷ word 1 code ∷ word (lengthWidth code) limit ∷ fs
 
-abbrev pub put : Token Sent → List Field → List Field
+abbrev pub put : Token EncodedCell → List Field → List Field
 put (metadata n) fs = word 1 0x81 ∷ word 2 n ∷ fs
 put (column u f c l o n) fs = typeFields u f c l (raw o ∷ word 1 (nameCount n) ∷ raw n ∷ fs)
 put row fs = word 1 0xD1 ∷ fs
@@ -111,5 +108,5 @@ put (message k n s c t v p l) fs =
     messageHead k (messageLength t v p) n s c (usVarchar t (bVarchar v (bVarchar p (word 4 l ∷ fs))))
 
 -- the bytes of a token
-unfoldable pub bytesOf : Token Sent → List ℕ
-bytesOf t = flat (put t [])
+unfoldable pub tokenBytes : Token EncodedCell → List ℕ
+tokenBytes t = flat (put t [])

@@ -1,20 +1,36 @@
 -- The column types (MS-TDS 2.2.5.4, 2.2.5.5): the code and the length that the Rust writes for each. Rests on nothing.
 use Prim.Native.Nat.{ℕ}
 use mathlib.Core.Bool.{cond, _||_}
+use mathlib.Core.List.{List, [], _∷_}
 use lib.Dec.{eqb}
 use Rattle.token.specs.declared.SqlDataType.{SqlDataType}
 use Rattle.token.specs.declared.SqlDataType.the-variants.{TinyInt, SmallInt, Int, BigInt, NVarChar, NVarCharMax, VarCharMax, VarBinaryMax}
+use Rattle.token.specs.declared.KnownDataType.{KnownDataType}
+use Rattle.token.specs.declared.KnownDataType.the-variants.{Known, Unknown}
 
--- type bytes 1 to 8 of a script, in the order of `SqlDataType`
-unfoldable pub dataTypeOf : ℕ → SqlDataType
-dataTypeOf b =
-    cond (eqb b 1) TinyInt
-    (cond (eqb b 2) SmallInt
-    (cond (eqb b 3) Int
-    (cond (eqb b 4) BigInt
-    (cond (eqb b 5) NVarChar
-    (cond (eqb b 6) NVarCharMax
-    (cond (eqb b 7) VarCharMax VarBinaryMax))))))
+-- the type byte that stands for a data type in a script (document 01, 'The script': 1 to 8 in the order of `SqlDataType`)
+abbrev pub typeByte : SqlDataType → ℕ
+typeByte TinyInt = 1
+typeByte SmallInt = 2
+typeByte Int = 3
+typeByte BigInt = 4
+typeByte NVarChar = 5
+typeByte NVarCharMax = 6
+typeByte VarCharMax = 7
+typeByte VarBinaryMax = 8
+
+-- all data types
+unfoldable pub dataTypes : List SqlDataType
+dataTypes = TinyInt ∷ SmallInt ∷ Int ∷ BigInt ∷ NVarChar ∷ NVarCharMax ∷ VarCharMax ∷ VarBinaryMax ∷ []
+
+-- of some data types the one that a byte stands for
+unfoldable pub dataTypeIn : List SqlDataType → ℕ → KnownDataType
+dataTypeIn [] b = Unknown
+dataTypeIn (t ∷ ts) b = cond (eqb b (typeByte t)) (Known t) (dataTypeIn ts b)
+
+-- the data type that a type byte stands for
+unfoldable pub dataTypeOf : ℕ → KnownDataType
+dataTypeOf b = dataTypeIn dataTypes b
 
 -- INTNTYPE 26, NVARCHARTYPE E7, BIGVARCHARTYPE A7, BIGVARBINARYTYPE A5
 abbrev pub typeCode : SqlDataType → ℕ

@@ -27,6 +27,6 @@ flat-cat [] gs = refl
 flat-cat (word k n ∷ fs) gs = rw (flat-cat fs gs) (sym (append-assoc (le k n) (flat fs) (flat gs)))
 flat-cat (raw xs ∷ fs) gs = rw (flat-cat fs gs) (sym (append-assoc xs (flat fs) (flat gs)))
 
--- fields written behind fields
+-- fields written after fields
 pub then-fields : (fs gs : List Field) {l m n : List ℕ} {at to end : ℕ} → Wrote l at (flat fs) m to → Wrote m to (flat gs) n end → Wrote l at (flat (fs ++ gs)) n end
 then-fields fs gs w u = wrote-as (then w u) (sym (flat-cat fs gs))

@@ -40,7 +40,7 @@ pub le-one : (at : ℕ) (l : List ℕ) → at < length l → leAt 1 (drop at l) 
 unfolding leAt
 le-one at l h = rw (drop-cons l at 0 h) (omega arith)
 
--- the bytes at k places, one after another, i behind at
+-- the bytes at k places, one after another, i after at
 abbrev pub bytesFrom : ℕ → ℕ → ℕ → List ℕ → List ℕ
 bytesFrom zero at i l = []
 bytesFrom (suc k) at i l = getD l (at + i) 0 ∷ bytesFrom k at (suc i) l

@@ -32,11 +32,11 @@ unfolding overwrite
 is-sets [] l at = refl
 is-sets (x ∷ xs) l at = is-sets xs (set l at x) (suc at)
 
--- with room for xs: what stood before it, xs, and what stood behind it
+-- with room for xs: what stood before it, xs, and what stood after it
 pub over-eq : (xs l : List ℕ) (at : ℕ) → at + length xs ≤ length l → overwrite l at xs ≡ take at l ++ xs ++ drop (at + length xs) l
 over-eq xs l at h = is-sets xs l at ∙ sets-eq xs l at h
 
--- the place behind xs, or the end: what is written there is the same
+-- the place after xs, or the end: what is written there is the same
 over-min : (ys l : List ℕ) (at : ℕ) → overwrite l (min at (length l)) ys ≡ overwrite l at ys
 over-min ys l at =
     split at (length l)
@@ -104,7 +104,7 @@ wrote-room src l m at n e w p =
     (λ h. (wrote-as (wrote-short (drop n src) here (omega arith)) all .0, record { place = p }))
     (λ h. let whole : take n src ≡ src = take-all n src (omega arith) in (w ∙ rw whole, record { place = p }))
 
--- nothing more is written behind a write: under `unfolding flat` a run of writers is `then w1 (then w2 (.. (then wn (ended wn))))`
+-- nothing more is written after a write: under `unfolding flat` a run of writers is `then w1 (then w2 (.. (then wn (ended wn))))`
 pub ended : {l m : List ℕ} {at to : ℕ} {xs : List ℕ} → Wrote l at xs m to → Wrote m to [] m to
 unfolding overwrite
 ended {l} {m} {at} {xs = xs} w =

@@ -1,4 +1,4 @@
--- The laws of `bytesOf`: a part that starts past the end is empty, one that ends past it is what is left. Assumes nothing.
+-- The laws of `partBytes`: a part that starts past the end is empty, one that ends past it is what is left. Assumes nothing.
 use mathlib.Core.Path.{_≡_}
 use mathlib.Core.List.{List, []}
 use Prim.Native.Nat.{ℕ, _+_, _-_, _≤_}
@@ -6,14 +6,14 @@ use native.Mathlib.Omega.{arith}
 use lib.ListN.{length, take, drop, length-drop, drop-of-length-le}
 use lib.Seq.{take-all, take-nil}
 use Rattle.wire.specs.declared.Part.{Part}
-use Rattle.wire.specs.Part.{bytesOf}
+use Rattle.wire.specs.Part.{partBytes}
 
-pub part-past : (s : List ℕ) (p : Part) → length s ≤ p .start → bytesOf s p ≡ []
-unfolding bytesOf
+pub part-past : (s : List ℕ) (p : Part) → length s ≤ p .start → partBytes s p ≡ []
+unfolding partBytes
 part-past s p h = rw (drop-of-length-le s h, take-nil (p .len))
 
-pub part-rest : (s : List ℕ) (p : Part) → length s ≤ p .start + p .len → bytesOf s p ≡ drop (p .start) s
-unfolding bytesOf
+pub part-rest : (s : List ℕ) (p : Part) → length s ≤ p .start + p .len → partBytes s p ≡ drop (p .start) s
+unfolding partBytes
 part-rest s p h = take-all (p .len) (drop (p .start) s) (simp length-drop (omega arith))
 
 -- the rest of a list as a slice has it

@@ -3,3 +3,4 @@ pub mod Be
 pub mod Over
 pub mod Fields
 pub mod Part
+pub mod Even

@@ -5,5 +5,5 @@ use lib.ListN.{take, drop}
 use Rattle.wire.specs.declared.Part.{Part}
 
 -- the bytes that a part stands for (document 01: 'a part stands for the bytes in it'); what lies past the end is left out
-unfoldable pub bytesOf : List ℕ → Part → List ℕ
-bytesOf s p = take (p .len) (drop (p .start) s)
+unfoldable pub partBytes : List ℕ → Part → List ℕ
+partBytes s p = take (p .len) (drop (p .start) s)

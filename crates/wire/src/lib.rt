@@ -6,8 +6,8 @@ ghost use Prim.Native.Nat.{_-_, min};
 ghost use lib.ListN.{length, drop};
 ghost use Rattle.wire.specs.Le.{leAt, le};
 ghost use Rattle.wire.specs.Be.{beAt, be};
-ghost use Rattle.wire.specs.Over.{overwrite, PlaceBehind};
-ghost use Rattle.wire.specs.Part.{bytesOf};
+ghost use Rattle.wire.specs.Over.{overwrite, PlaceAfter};
+ghost use Rattle.wire.specs.Part.{partBytes};
 
 // A part of some bytes (document 01's term): where it starts in them, and how many there are.
 pub struct Part {
@@ -17,7 +17,7 @@ pub struct Part {
 
 // The part of s, as a slice; what lies past the end of s is left out.
 pub fn part_of(s: &[u8], part: Part) -> &[u8]
-    ensures { λ r. ⌜ now r ≡ bytesOf (now (s .entry)) part ⌝ }
+    ensures { λ r. ⌜ now r ≡ partBytes (now (s .entry)) part ⌝ }
 {
     let start = part.start;
     let len = part.len;
@@ -49,7 +49,7 @@ pub fn u16_from_le_bytes(b0: u8, b1: u8) -> u16
 pub fn u32_from_le_bytes(b0: u8, b1: u8, b2: u8, b3: u8) -> u32
     ensures { λ r. ⌜ r ≡ leAt 4 (b0 ∷ b1 ∷ b2 ∷ b3 ∷ []) ⌝ }
 {
-    (b3 as u32) * 16777216 + (b2 as u32) * 65536 + (b1 as u32) * 256 + b0 as u32
+    b0 as u32 + (b1 as u32) * 256 + (b2 as u32) * 65536 + (b3 as u32) * 16777216
 }
 
 pub fn get_u8(s: &[u8], at: usize) -> u8
@@ -99,7 +99,7 @@ pub fn get_u64_le(s: &[u8], at: usize) -> u64
     high * 4294967296 + low
 }
 
-// Big-endian numbers: the highest byte first.
+// A big-endian number: the highest byte first.
 pub fn get_u16(s: &[u8], at: usize) -> u16
     ensures { λ r. ⌜ r ≡ beAt 2 (drop at (now (s .entry))) ⌝ }
 {
@@ -111,21 +111,10 @@ pub fn get_u16(s: &[u8], at: usize) -> u16
     high * 256 + low
 }
 
-pub fn get_u32(s: &[u8], at: usize) -> u32
-    ensures { λ r. ⌜ r ≡ beAt 4 (drop at (now (s .entry))) ⌝ }
-{
-    if s.len() <= at {
-        return 0;
-    }
-    let high = get_u16(s, at) as u32;
-    let low = get_u16(s, at + 2) as u32;
-    high * 65536 + low
-}
-
-// Writers answer the place behind what they wrote.
+// Writers answer the place after what they wrote.
 pub fn put_u8(buf: &mut [u8], at: usize, v: u8) -> usize
     ensures { λ _. ⌜ now (buf .exit) ≡ overwrite (now (buf .entry)) at (le 1 v) ⌝ }
-    ensures { λ r. ⌜ PlaceBehind (now (buf .entry)) at (le 1 v) r ⌝ }
+    ensures { λ r. ⌜ PlaceAfter (now (buf .entry)) at (le 1 v) r ⌝ }
 {
     if buf.len() <= at {
         return buf.len();
@@ -136,7 +125,7 @@ pub fn put_u8(buf: &mut [u8], at: usize, v: u8) -> usize
 
 pub fn put_u16_le(buf: &mut [u8], at: usize, v: u16) -> usize
     ensures { λ _. ⌜ now (buf .exit) ≡ overwrite (now (buf .entry)) at (le 2 v) ⌝ }
-    ensures { λ r. ⌜ PlaceBehind (now (buf .entry)) at (le 2 v) r ⌝ }
+    ensures { λ r. ⌜ PlaceAfter (now (buf .entry)) at (le 2 v) r ⌝ }
 {
     if left(buf, at) < 2 {
         return put_u8(buf, at, (v % 256) as u8);
@@ -148,7 +137,7 @@ pub fn put_u16_le(buf: &mut [u8], at: usize, v: u16) -> usize
 
 pub fn put_u32_le(buf: &mut [u8], at: usize, v: u32) -> usize
     ensures { λ _. ⌜ now (buf .exit) ≡ overwrite (now (buf .entry)) at (le 4 v) ⌝ }
-    ensures { λ r. ⌜ PlaceBehind (now (buf .entry)) at (le 4 v) r ⌝ }
+    ensures { λ r. ⌜ PlaceAfter (now (buf .entry)) at (le 4 v) r ⌝ }
 {
     if left(buf, at) < 4 {
         return put_halves(buf, at, v);
@@ -163,7 +152,7 @@ pub fn put_u32_le(buf: &mut [u8], at: usize, v: u32) -> usize
 // A number of four bytes that may run past the end.
 fn put_halves(buf: &mut [u8], at: usize, v: u32) -> usize
     ensures { λ _. ⌜ now (buf .exit) ≡ overwrite (now (buf .entry)) at (le 4 v) ⌝ }
-    ensures { λ r. ⌜ PlaceBehind (now (buf .entry)) at (le 4 v) r ⌝ }
+    ensures { λ r. ⌜ PlaceAfter (now (buf .entry)) at (le 4 v) r ⌝ }
 {
     let next = put_u16_le(buf, at, (v % 65536) as u16);
     put_u16_le(buf, next, (v / 65536) as u16)
@@ -171,32 +160,25 @@ fn put_halves(buf: &mut [u8], at: usize, v: u32) -> usize
 
 pub fn put_u64_le(buf: &mut [u8], at: usize, v: u64) -> usize
     ensures { λ _. ⌜ now (buf .exit) ≡ overwrite (now (buf .entry)) at (le 8 v) ⌝ }
-    ensures { λ r. ⌜ PlaceBehind (now (buf .entry)) at (le 8 v) r ⌝ }
+    ensures { λ r. ⌜ PlaceAfter (now (buf .entry)) at (le 8 v) r ⌝ }
 {
     let next = put_u32_le(buf, at, (v % 4294967296) as u32);
     put_u32_le(buf, next, (v / 4294967296) as u32)
 }
 
+// A big-endian number: the highest byte first.
 pub fn put_u16(buf: &mut [u8], at: usize, v: u16) -> usize
     ensures { λ _. ⌜ now (buf .exit) ≡ overwrite (now (buf .entry)) at (be 2 v) ⌝ }
-    ensures { λ r. ⌜ PlaceBehind (now (buf .entry)) at (be 2 v) r ⌝ }
+    ensures { λ r. ⌜ PlaceAfter (now (buf .entry)) at (be 2 v) r ⌝ }
 {
     let next = put_u8(buf, at, (v / 256) as u8);
     put_u8(buf, next, (v % 256) as u8)
 }
 
-pub fn put_u32(buf: &mut [u8], at: usize, v: u32) -> usize
-    ensures { λ _. ⌜ now (buf .exit) ≡ overwrite (now (buf .entry)) at (be 4 v) ⌝ }
-    ensures { λ r. ⌜ PlaceBehind (now (buf .entry)) at (be 4 v) r ⌝ }
-{
-    let next = put_u16(buf, at, (v / 65536) as u16);
-    put_u16(buf, next, (v % 65536) as u16)
-}
-
 // The bytes of src, copied.
 pub fn put_slice(buf: &mut [u8], at: usize, src: &[u8]) -> usize
     ensures { λ _. ⌜ now (buf .exit) ≡ overwrite (now (buf .entry)) at (now (src .entry)) ⌝ }
-    ensures { λ r. ⌜ PlaceBehind (now (buf .entry)) at (now (src .entry)) r ⌝ }
+    ensures { λ r. ⌜ PlaceAfter (now (buf .entry)) at (now (src .entry)) r ⌝ }
 {
     let room = left(buf, at);
     if room < src.len() {
@@ -209,7 +191,7 @@ pub fn put_slice(buf: &mut [u8], at: usize, src: &[u8]) -> usize
 fn copy(buf: &mut [u8], at: usize, src: &[u8], n: usize) -> usize
     requires { ⌜ n ≡ min (length (now src)) (length (now buf) - at) ⌝ }
     ensures { λ _. ⌜ now (buf .exit) ≡ overwrite (now (buf .entry)) at (now (src .entry)) ⌝ }
-    ensures { λ r. ⌜ PlaceBehind (now (buf .entry)) at (now (src .entry)) r ⌝ }
+    ensures { λ r. ⌜ PlaceAfter (now (buf .entry)) at (now (src .entry)) r ⌝ }
 {
     let mut i = 0;
     while i < n {

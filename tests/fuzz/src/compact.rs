@@ -59,7 +59,7 @@ impl<'a> Draw<'a> {
     }
 
     /// A string: a byte whose lower half says how many bytes come as they are, and its next three
-    /// bits how many come after them to be repeated, as often as the two bytes behind them say.
+    /// bits how many come after them to be repeated, as often as the two bytes after those say.
     pub fn bytes(&mut self) -> Vec<u8> {
         let form = usize::from(self.byte());
         let mut bytes = self.part(form & 0x0F).to_vec();

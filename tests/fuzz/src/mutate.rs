@@ -60,7 +60,7 @@ fn script(random: &mut Random, input: &[u8], most: usize, own: Own) -> Vec<u8> {
     [records::written(&script), tail.to_vec()].concat()
 }
 
-/// The whole records at the front, and the bytes behind them.
+/// The whole records at the front, and the bytes after them.
 fn split(mut bytes: &[u8]) -> (Vec<Record>, &[u8]) {
     let mut script = Vec::new();
     while let Ok((kind, payload, rest)) = records::first(bytes) {

@@ -1,5 +1,5 @@
 
-// Added by tests/oracle behind the unchanged text: ways to the private functions.
+// Added by tests/oracle after the unchanged text: ways to the private functions.
 
 pub fn private_build_prelogin_response_with_options(
     supports_encryption: bool,

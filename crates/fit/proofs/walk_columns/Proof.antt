@@ -1,6 +1,7 @@
 -- `fit::walk_columns` meets its contract. The loop's invariant: what the columns from `at` on have wrong is what the set's columns
 -- have, their types are those put down and those still to come, and the records passed have no misfit of their own. Assumes nothing.
 use Rattle.fit.proofs.ColumnTurns.{Left, columns-start, columns-cut, columns-end, columns-other, columns-ended, columns-wrong, columns-next, columns-room}
+use Rattle.emission.proofs.Stops.{stops}
 use Rattle.fit.proofs.Skip.{kind-is}
 use Rattle.script.proofs.Walk.{lies}
 use borrow.Author.Tests.{ne-eqb, not-true, not-false}
@@ -32,23 +33,14 @@ loop-holds c = columns-start _ _ (c .before .args .types .now) (c .before .pre)
 record-at-requires : tie.Need-record-at-requires Inv-loop μ-loop
 record-at-requires c κs = search needs
 
-enum-told : tie.Need-enum-told Inv-loop μ-loop
-enum-told c = search needs
-
 returns : tie.Need-returns Inv-loop μ-loop
-returns c = columns-ended _ _ _ _ _ (c .before .before .before .loop .inv) (columns-cut _ _ (sym (c .before .before .record-at .ensures) ∙ c .enum-told .given .1))
-
-enum-told-2 : tie.Need-enum-told-2 Inv-loop μ-loop
-enum-told-2 c = search needs
-
-returns-2 : tie.Need-returns-2 Inv-loop μ-loop
-returns-2 c = columns-ended _ _ _ _ _ (c .before .before .before .loop .inv) (columns-end _ _ (sym (c .before .before .record-at .ensures) ∙ c .enum-told2 .given .1))
+returns c = columns-ended _ _ _ _ _ (c .before .before .loop .inv) (stops (c .before .record-at .ensures) (c .match .keys1) (columns-cut _ _) (columns-end _ _))
 
 enum-known-kind : tie.Need-enum-known-kind Inv-loop μ-loop
 enum-known-kind c = search needs
 
-returns-3 : tie.Need-returns-3 Inv-loop μ-loop
-returns-3 c = columns-ended _ _ _ _ _ (c .before .before .before .before .before .loop .inv) (columns-other _ _ (found (c .before .before)) (ne-eqb _ _ (c .if1 .taken)))
+returns-2 : tie.Need-returns-2 Inv-loop μ-loop
+returns-2 c = columns-ended _ _ _ _ _ (c .before .before .before .before .before .loop .inv) (columns-other _ _ (found (c .before .before)) (ne-eqb _ _ (c .if1 .taken)))
 
 add-next : tie.Need-add-next Inv-loop μ-loop
 add-next c = omega (arith, lies _ _ (found (c .before .before)))
@@ -65,8 +57,8 @@ part-column-end c = omega (arith, lies _ _ (found (c .before .before)))
 column-fits-requires : tie.Need-column-fits-requires Inv-loop μ-loop
 column-fits-requires c κs = search needs
 
-returns-4 : tie.Need-returns-4 Inv-loop μ-loop
-returns-4 c = columns-wrong _ _ _ _ _ (c .before .before .before .before .before .before .before .before .loop .inv) (kind-is (found (c .before .before .before .before .before)) (c .before .before .before .if1 .left)) (c .before .column-fits .ensures) (not-true _ (c .if2 .taken))
+returns-3 : tie.Need-returns-3 Inv-loop μ-loop
+returns-3 c = columns-wrong _ _ _ _ _ (c .before .before .before .before .before .before .before .before .loop .inv) (kind-is (found (c .before .before .before .before .before)) (c .before .before .before .if1 .left)) (c .before .column-fits .ensures) (not-true _ (c .if2 .taken))
 
 get-u8-requires : tie.Need-get-u8-requires Inv-loop μ-loop
 get-u8-requires c κs = search needs
@@ -91,18 +83,15 @@ walk-columns-spec =
     μ-loop
     loop-holds
     record-at-requires
-    enum-told
     returns
-    enum-told-2
-    returns-2
     enum-known-kind
-    returns-3
+    returns-2
     add-next
     sub-column
     part-column-start
     part-column-end
     column-fits-requires
-    returns-4
+    returns-3
     get-u8-requires
     element-write-types
     add-count

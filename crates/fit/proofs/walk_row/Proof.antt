@@ -1,6 +1,7 @@
 -- `fit::walk_row` meets its contract. The loop's invariant: what the cells from `at` on have against the columns that are left is
 -- what the row has against all its columns, and the records passed have no misfit of their own. Assumes nothing.
 use Rattle.fit.proofs.RowTurns.{Left, cells-cut, cells-end, cells-other, row-none, row-start, row-ended, row-chunk, row-wrong, row-next, row-room}
+use Rattle.emission.proofs.Stops.{stops}
 use Rattle.fit.proofs.Skip.{kind-is}
 use Rattle.script.proofs.Walk.{lies}
 use borrow.Author.Tests.{ne-eqb}
@@ -35,23 +36,12 @@ loop-holds c = row-start _ _ _ (c .if1 .left)
 record-at-requires : tie.Need-record-at-requires Inv-loop μ-loop
 record-at-requires c κs = search needs
 
-enum-told : tie.Need-enum-told Inv-loop μ-loop
-enum-told c = search needs
-
 row-end-requires : tie.Need-row-end-requires Inv-loop μ-loop
 row-end-requires c κs = search needs
 
 returns-2 : tie.Need-returns-2 Inv-loop μ-loop
-returns-2 c = row-ended _ _ _ _ _ (c .before .before .before .before .loop .inv) (cells-cut _ _ (sym (c .before .before .before .record-at .ensures) ∙ c .before .enum-told .given .1)) (c .row-end .ensures)
-
-enum-told-2 : tie.Need-enum-told-2 Inv-loop μ-loop
-enum-told-2 c = search needs
-
-row-end-requires-2 : tie.Need-row-end-requires-2 Inv-loop μ-loop
-row-end-requires-2 c κs = search needs
-
-returns-3 : tie.Need-returns-3 Inv-loop μ-loop
-returns-3 c = row-ended _ _ _ _ _ (c .before .before .before .before .loop .inv) (cells-end _ _ (sym (c .before .before .before .record-at .ensures) ∙ c .before .enum-told2 .given .1)) (c .row-end2 .ensures)
+returns-2 c = let none = stops (c .before .before .record-at .ensures) (c .before .match .keys1) (cells-cut _ _) (cells-end _ _) in
+    row-ended _ _ _ _ _ (c .before .before .before .loop .inv) none (c .row-end .ensures)
 
 enum-known-kind : tie.Need-enum-known-kind Inv-loop μ-loop
 enum-known-kind c = search needs
@@ -65,11 +55,11 @@ loop-less c = omega (arith, lies _ _ (found (c .before .before)))
 loop-again : tie.Need-loop-again Inv-loop μ-loop
 loop-again c = row-chunk _ _ _ _ _ (c .before .before .before .before .before .loop .inv) (kind-is (found (c .before .before)) (c .if2 .taken))
 
-row-end-requires-3 : tie.Need-row-end-requires-3 Inv-loop μ-loop
-row-end-requires-3 c κs = search needs
+row-end-requires-2 : tie.Need-row-end-requires-2 Inv-loop μ-loop
+row-end-requires-2 c κs = search needs
 
-returns-4 : tie.Need-returns-4 Inv-loop μ-loop
-returns-4 c = row-ended _ _ _ _ _ (c .before .before .before .before .before .before .before .loop .inv) (cells-other _ _ (found (c .before .before .before .before)) (ne-eqb _ _ (c .before .if3 .taken)) (ne-eqb _ _ (c .before .before .if2 .left))) (c .row-end3 .ensures)
+returns-3 : tie.Need-returns-3 Inv-loop μ-loop
+returns-3 c = row-ended _ _ _ _ _ (c .before .before .before .before .before .before .before .loop .inv) (cells-other _ _ (found (c .before .before .before .before)) (ne-eqb _ _ (c .before .if3 .taken)) (ne-eqb _ _ (c .before .before .if2 .left))) (c .row-end2 .ensures)
 
 sub-cell-wrong : tie.Need-sub-cell-wrong Inv-loop μ-loop
 sub-cell-wrong c = search needs
@@ -83,8 +73,8 @@ part-cell-wrong-end c = omega (arith, lies _ _ (found (c .before .before .before
 cell-wrong-requires : tie.Need-cell-wrong-requires Inv-loop μ-loop
 cell-wrong-requires c κs = search needs
 
-returns-5 : tie.Need-returns-5 Inv-loop μ-loop
-returns-5 c = row-wrong _ _ _ _ _ (c .before .before .before .before .before .before .before .before .before .loop .inv) (kind-is (found (c .before .before .before .before .before .before)) (c .before .before .before .if3 .left)) (c .before .cell-wrong .ensures) (c .if4 .taken)
+returns-4 : tie.Need-returns-4 Inv-loop μ-loop
+returns-4 c = row-wrong _ _ _ _ _ (c .before .before .before .before .before .before .before .before .before .loop .inv) (kind-is (found (c .before .before .before .before .before .before)) (c .before .before .before .if3 .left)) (c .before .cell-wrong .ensures) (c .if4 .taken)
 
 add-column : tie.Need-add-column Inv-loop μ-loop
 add-column c = omega (arith, row-room _ _ _ _ _ (c .before .before .before .before .before .before .before .before .before .loop .inv) (kind-is (found (c .before .before .before .before .before .before)) (c .before .before .before .if3 .left)) (c .before .cell-wrong .ensures) (c .if4 .left))
@@ -104,23 +94,19 @@ walk-row-spec =
     returns
     loop-holds
     record-at-requires
-    enum-told
     row-end-requires
     returns-2
-    enum-told-2
-    row-end-requires-2
-    returns-3
     enum-known-kind
     add-next
     loop-less
     loop-again
-    row-end-requires-3
-    returns-4
+    row-end-requires-2
+    returns-3
     sub-cell-wrong
     part-cell-wrong-start
     part-cell-wrong-end
     cell-wrong-requires
-    returns-5
+    returns-4
     add-column
     loop-less-2
     loop-again-2)

@@ -1,6 +1,7 @@
 -- `fit::walk_rows` meets its contract. The loop's invariant: the misfits of the records from `at` on are those from the first place on.
 -- Assumes nothing.
 use Rattle.fit.proofs.SetTurns.{Left, sets-cut, sets-end, sets-next, rows-start, rows-ended, rows-other, rows-wrong, rows-next, rows-onward}
+use Rattle.emission.proofs.Stops.{stops}
 use Rattle.fit.proofs.Skip.{kind-is}
 use Rattle.script.proofs.Walk.{lies}
 use borrow.Author.Tests.{ne-eqb}
@@ -32,17 +33,8 @@ loop-holds c = rows-start _ _ _ _
 record-at-requires : tie.Need-record-at-requires Inv-loop μ-loop
 record-at-requires c κs = search needs
 
-enum-told : tie.Need-enum-told Inv-loop μ-loop
-enum-told c = search needs
-
 returns : tie.Need-returns Inv-loop μ-loop
-returns c = rows-ended _ _ _ _ _ _ (c .before .before .before .loop .inv) (sets-cut _ _ _ _ _ (sym (c .before .before .record-at .ensures) ∙ c .enum-told .given .1))
-
-enum-told-2 : tie.Need-enum-told-2 Inv-loop μ-loop
-enum-told-2 c = search needs
-
-returns-2 : tie.Need-returns-2 Inv-loop μ-loop
-returns-2 c = rows-ended _ _ _ _ _ _ (c .before .before .before .loop .inv) (sets-end _ _ _ _ _ (sym (c .before .before .record-at .ensures) ∙ c .enum-told2 .given .1))
+returns c = rows-ended _ _ _ _ _ _ (c .before .before .loop .inv) (stops (c .before .record-at .ensures) (c .match .keys1) (sets-cut _ _ _ _ _) (sets-end _ _ _ _ _))
 
 enum-known-kind : tie.Need-enum-known-kind Inv-loop μ-loop
 enum-known-kind c = search needs
@@ -50,8 +42,8 @@ enum-known-kind c = search needs
 add-next : tie.Need-add-next Inv-loop μ-loop
 add-next c = omega (arith, lies _ _ (found (c .before)))
 
-returns-3 : tie.Need-returns-3 Inv-loop μ-loop
-returns-3 c = rows-ended _ _ _ _ _ _ (c .before .before .before .before .before .loop .inv) (sets-next _ _ _ _ _ (kind-is (found (c .before .before)) (c .if1 .taken)))
+returns-2 : tie.Need-returns-2 Inv-loop μ-loop
+returns-2 c = rows-ended _ _ _ _ _ _ (c .before .before .before .before .before .loop .inv) (sets-next _ _ _ _ _ (kind-is (found (c .before .before)) (c .if1 .taken)))
 
 loop-less : tie.Need-loop-less Inv-loop μ-loop
 loop-less c = omega (arith, lies _ _ (found (c .before .before .before)))
@@ -65,20 +57,20 @@ walk-row-requires c κs = search needs
 enum-known-column : tie.Need-enum-known-column Inv-loop μ-loop
 enum-known-column c = search needs
 
-returns-4 : tie.Need-returns-4 Inv-loop μ-loop
-returns-4 c = rows-wrong _ _ _ _ _ _ (c .before .before .before .before .before .before .before .before .before .before .loop .inv) (kind-is (found (c .before .before .before .before .before .before .before)) (c .before .before .before .before .if2 .left)) (c .before .before .before .walk-row .ensures) (c .before .column .given .1)
+returns-3 : tie.Need-returns-3 Inv-loop μ-loop
+returns-3 c = rows-wrong _ _ _ _ _ _ (c .before .before .before .before .before .before .before .before .before .before .loop .inv) (kind-is (found (c .before .before .before .before .before .before .before)) (c .before .before .before .before .if2 .left)) (c .before .before .before .walk-row .ensures) (c .before .column .given .1)
 
-enum-known-behind : tie.Need-enum-known-behind Inv-loop μ-loop
-enum-known-behind c = search needs
+enum-known-after : tie.Need-enum-known-after Inv-loop μ-loop
+enum-known-after c = search needs
 
 add-row : tie.Need-add-row Inv-loop μ-loop
 add-row c = omega (arith, lies _ _ (found (c .before .before .before .before .before .before .before)))
 
 loop-less-2 : tie.Need-loop-less-2 Inv-loop μ-loop
-loop-less-2 c = omega (arith, lies _ _ (found (c .before .before .before .before .before .before .before)), rows-onward _ _ _ _ _ _ (c .before .before .before .before .before .before .before .before .before .before .loop .inv) (kind-is (found (c .before .before .before .before .before .before .before)) (c .before .before .before .before .if2 .left)) (c .before .before .before .walk-row .ensures) (c .before .behind .given .1))
+loop-less-2 c = omega (arith, lies _ _ (found (c .before .before .before .before .before .before .before)), rows-onward _ _ _ _ _ _ (c .before .before .before .before .before .before .before .before .before .before .loop .inv) (kind-is (found (c .before .before .before .before .before .before .before)) (c .before .before .before .before .if2 .left)) (c .before .before .before .walk-row .ensures) (c .before .after .given .1))
 
 loop-again-2 : tie.Need-loop-again-2 Inv-loop μ-loop
-loop-again-2 c = rows-next _ _ _ _ _ _ (c .before .before .before .before .before .before .before .before .before .before .loop .inv) (kind-is (found (c .before .before .before .before .before .before .before)) (c .before .before .before .before .if2 .left)) (c .before .before .before .walk-row .ensures) (c .before .behind .given .1)
+loop-again-2 c = rows-next _ _ _ _ _ _ (c .before .before .before .before .before .before .before .before .before .before .loop .inv) (kind-is (found (c .before .before .before .before .before .before .before)) (c .before .before .before .before .if2 .left)) (c .before .before .before .walk-row .ensures) (c .before .after .given .1)
 
 pub walk-rows-spec : {M : Type 1} → statement M
 walk-rows-spec =
@@ -88,19 +80,16 @@ walk-rows-spec =
     μ-loop
     loop-holds
     record-at-requires
-    enum-told
     returns
-    enum-told-2
-    returns-2
     enum-known-kind
     add-next
-    returns-3
+    returns-2
     loop-less
     loop-again
     walk-row-requires
     enum-known-column
-    returns-4
-    enum-known-behind
+    returns-3
+    enum-known-after
     add-row
     loop-less-2
     loop-again-2)

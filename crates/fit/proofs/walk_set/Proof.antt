@@ -8,7 +8,7 @@ use Rattle.fit.proofs.walk_set.Statement.{statement}
 use Rattle.fit.proofs.walk_set.Tie as tie
 
 returns : tie.Need-returns
-returns c = let a = c .before .before .before .args in set-classified (now (a .s)) (a .set) (now (a .class)) (a .from) (c .if1 .taken)
+returns c = let a = c .before .before .before .args in set-classified (now (a .s)) (a .set) (now (a .classification)) (a .from) (c .if1 .taken)
 
 walk-columns-requires : tie.Need-walk-columns-requires
 walk-columns-requires c κs = search needs
@@ -20,19 +20,19 @@ enum-known-count : tie.Need-enum-known-count
 enum-known-count c = search needs
 
 array-share-prefix-types : tie.Need-array-share-prefix-types
-array-share-prefix-types c = let a = c .before .before .before .before .before .before .before .before .args in set-types (now (a .s)) (a .set) (now (a .class)) (a .from) (c .before .before .before .walk-columns .last .1 .1 .0) (c .before .before .before .before .before .if1 .left) (c .before .before .before .walk-columns .ensures) (c .before .count .given .1)
+array-share-prefix-types c = let a = c .before .before .before .before .before .before .before .before .args in set-types (now (a .s)) (a .set) (now (a .classification)) (a .from) (c .before .before .before .walk-columns .last .1 .1 .0) (c .before .before .before .before .before .if1 .left) (c .before .before .before .walk-columns .ensures) (c .before .count .given .1)
 
 slice-aggregate-walk-rows : tie.Need-slice-aggregate-walk-rows
-slice-aggregate-walk-rows c = let a = c .before .before .before .before .before .before .before .before .before .args in let h = set-types (now (a .s)) (a .set) (now (a .class)) (a .from) (c .before .before .before .before .walk-columns .last .1 .1 .0) (c .before .before .before .before .before .before .if1 .left) (c .before .before .before .before .walk-columns .ensures) (c .before .before .count .given .1) in omega (arith, length-take (c .before .before .count .given .0 .0) (c .before .before .before .before .walk-columns .last .1 .1 .0))
+slice-aggregate-walk-rows c = let a = c .before .before .before .before .before .before .before .before .before .args in let h = set-types (now (a .s)) (a .set) (now (a .classification)) (a .from) (c .before .before .before .before .walk-columns .last .1 .1 .0) (c .before .before .before .before .before .before .if1 .left) (c .before .before .before .before .walk-columns .ensures) (c .before .before .count .given .1) in omega (arith, length-take (c .before .before .count .given .0 .0) (c .before .before .before .before .walk-columns .last .1 .1 .0))
 
 walk-rows-requires : tie.Need-walk-rows-requires
 walk-rows-requires c κs = search needs
 
 returns-2 : tie.Need-returns-2
-returns-2 c = let a = c .before .before .before .before .before .before .before .before .args in set-wrong (now (a .s)) (a .set) (now (a .class)) (a .from) (c .before .before .before .walk-columns .last .1 .1 .0) (c .before .before .before .before .before .if1 .left) (c .before .before .before .walk-columns .ensures) (c .before .column .given .1)
+returns-2 c = let a = c .before .before .before .before .before .before .before .before .args in set-wrong (now (a .s)) (a .set) (now (a .classification)) (a .from) (c .before .before .before .walk-columns .last .1 .1 .0) (c .before .before .before .before .before .if1 .left) (c .before .before .before .walk-columns .ensures) (c .before .column .given .1)
 
 returns-3 : tie.Need-returns-3
-returns-3 c = let a = c .before .before .before .before .before .before .before .before .before .before .args in set-rows (now (a .s)) (a .set) (now (a .class)) (a .from) (c .before .before .before .before .before .walk-columns .last .1 .1 .0) (c .before .before .before .before .before .before .before .if1 .left) (c .before .before .before .before .before .walk-columns .ensures) (c .walk-rows .result) (c .before .before .before .count .given .1) (c .walk-rows .ensures)
+returns-3 c = let a = c .before .before .before .before .before .before .before .before .before .before .args in set-rows (now (a .s)) (a .set) (now (a .classification)) (a .from) (c .before .before .before .before .before .walk-columns .last .1 .1 .0) (c .before .before .before .before .before .before .before .if1 .left) (c .before .before .before .before .before .walk-columns .ensures) (c .walk-rows .result) (c .before .before .before .count .given .1) (c .walk-rows .ensures)
 
 pub walk-set-spec : {M : Type 1} → statement M
 walk-set-spec =

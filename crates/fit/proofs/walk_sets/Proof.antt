@@ -1,5 +1,6 @@
 -- `fit::walk_sets` meets its contract. The loop's invariant: the first misfit of the sets from `at` on is the script's. Assumes nothing.
 use Rattle.fit.proofs.SetTurns.{LeftSets, all-cut, all-end, all-wrong, all-onward, all-next}
+use Rattle.emission.proofs.Stops.{stops}
 use Rattle.script.proofs.Walk.{lies}
 use Rattle.script.specs.Records.{recordAt}
 use Rattle.script.specs.declared.Found.the-variants.{Record}
@@ -29,17 +30,8 @@ loop-holds c = (search needs, refl)
 record-at-requires : tie.Need-record-at-requires Inv-loop μ-loop
 record-at-requires c κs = search needs
 
-enum-told : tie.Need-enum-told Inv-loop μ-loop
-enum-told c = search needs
-
 returns : tie.Need-returns Inv-loop μ-loop
-returns c = all-cut _ _ _ (c .before .before .before .loop .inv) (sym (c .before .before .record-at .ensures) ∙ c .enum-told .given .1)
-
-enum-told-2 : tie.Need-enum-told-2 Inv-loop μ-loop
-enum-told-2 c = search needs
-
-returns-2 : tie.Need-returns-2 Inv-loop μ-loop
-returns-2 c = all-end _ _ _ (c .before .before .before .loop .inv) (sym (c .before .before .record-at .ensures) ∙ c .enum-told2 .given .1)
+returns c = stops (c .before .record-at .ensures) (c .match .keys1) (all-cut _ _ _ (c .before .before .loop .inv)) (all-end _ _ _ (c .before .before .loop .inv))
 
 enum-known-start : tie.Need-enum-known-start Inv-loop μ-loop
 enum-known-start c = search needs
@@ -62,20 +54,20 @@ walk-set-requires c κs = search needs
 enum-known-misfit : tie.Need-enum-known-misfit Inv-loop μ-loop
 enum-known-misfit c = search needs
 
-returns-3 : tie.Need-returns-3 Inv-loop μ-loop
-returns-3 c = all-wrong _ _ _ (c .before .before .before .before .before .before .before .before .before .loop .inv) (c .before .before .before .walk-set .result) (found (c .before .before .before .before .before .before)) (c .before .before .before .walk-set .ensures) (c .before .misfit .given .1)
+returns-2 : tie.Need-returns-2 Inv-loop μ-loop
+returns-2 c = all-wrong _ _ _ (c .before .before .before .before .before .before .before .before .before .loop .inv) (c .before .before .before .walk-set .result) (found (c .before .before .before .before .before .before)) (c .before .before .before .walk-set .ensures) (c .before .misfit .given .1)
 
-enum-known-behind : tie.Need-enum-known-behind Inv-loop μ-loop
-enum-known-behind c = search needs
+enum-known-after : tie.Need-enum-known-after Inv-loop μ-loop
+enum-known-after c = search needs
 
 add-set : tie.Need-add-set Inv-loop μ-loop
 add-set c = omega (arith, lies _ _ (found (c .before .before .before .before .before .before)))
 
 loop-less : tie.Need-loop-less Inv-loop μ-loop
-loop-less c = omega (arith, lies _ _ (found (c .before .before .before .before .before .before)), all-onward _ _ _ (c .before .before .before .before .before .before .before .before .before .loop .inv) (c .before .before .before .walk-set .result) (found (c .before .before .before .before .before .before)) (c .before .before .before .walk-set .ensures) (c .before .behind .given .1))
+loop-less c = omega (arith, lies _ _ (found (c .before .before .before .before .before .before)), all-onward _ _ _ (c .before .before .before .before .before .before .before .before .before .loop .inv) (c .before .before .before .walk-set .result) (found (c .before .before .before .before .before .before)) (c .before .before .before .walk-set .ensures) (c .before .after .given .1))
 
 loop-again : tie.Need-loop-again Inv-loop μ-loop
-loop-again c = all-next _ _ _ (c .before .before .before .before .before .before .before .before .before .loop .inv) (c .before .before .before .walk-set .result) (found (c .before .before .before .before .before .before)) (c .before .before .before .walk-set .ensures) (c .before .behind .given .1)
+loop-again c = all-next _ _ _ (c .before .before .before .before .before .before .before .before .before .loop .inv) (c .before .before .before .walk-set .result) (found (c .before .before .before .before .before .before)) (c .before .before .before .walk-set .ensures) (c .before .after .given .1)
 
 pub walk-sets-spec : {M : Type 1} → statement M
 walk-sets-spec =
@@ -85,10 +77,7 @@ walk-sets-spec =
     μ-loop
     loop-holds
     record-at-requires
-    enum-told
     returns
-    enum-told-2
-    returns-2
     enum-known-start
     add-next
     sub-walk-set
@@ -96,8 +85,8 @@ walk-sets-spec =
     part-walk-set-end
     walk-set-requires
     enum-known-misfit
-    returns-3
-    enum-known-behind
+    returns-2
+    enum-known-after
     add-set
     loop-less
     loop-again)

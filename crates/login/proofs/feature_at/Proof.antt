@@ -1,7 +1,7 @@
 -- `login::feature_at` meets its contract. Assumes nothing.
 use Rattle.login.proofs.Walk.{no-more, terminated, found}
 use mathlib.Core.Path.{refl}
-use Rattle.login.specs.Features.{follow, Lies}
+use Rattle.login.specs.Inner.{follow, Lies}
 use Prim.Native.Nat.{_-_, _≤_}
 use lib.ListN.{length}
 use native.Mathlib.Omega.{arith}

@@ -2,7 +2,8 @@
 use borrow.Author.Tests.{lt-ltb, le-ltb}
 use mathlib.Core.Path.{_≡_, sym, ap, _∙_}
 use Rattle.login.specs.Login.{parseLogin7, loginOf, idsAfter}
-use Rattle.login.specs.Features.{features, featuresFrom}
+use Rattle.login.specs.Features.{features}
+use Rattle.login.specs.Inner.{featuresFrom}
 use Rattle.login.proofs.Walk.{from-start}
 use denote.Ref.{now}
 use borrow.Author.Needs.{needs}

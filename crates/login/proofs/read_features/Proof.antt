@@ -5,7 +5,7 @@ use Prim.Native.Nat.{_+_, _-_, _≤_}
 use native.Mathlib.Nat.{zero-add, add-zero}
 use Rattle.login.proofs.Walk.{Stands, stands, ends}
 use Rattle.login.specs.declared.Login.{Login}
-use Rattle.login.specs.Features.{featuresFrom}
+use Rattle.login.specs.Inner.{featuresFrom}
 use Rattle.login.specs.Login.{after, headOf}
 use mathlib.Core.Path.{_≡_, ap}
 use lib.ListN.{length}
@@ -54,18 +54,18 @@ after-requires c κs = omega (arith, found (c .before))
 add-count : tie.Need-add-count Inv-loop μ-loop
 add-count c = omega (arith, found (c .before .before), c .before .before .before .before .before .loop .inv .0)
 
-behind-requires : tie.Need-behind-requires Inv-loop μ-loop
-behind-requires c κs = search needs
+after-part-requires : tie.Need-after-part-requires Inv-loop μ-loop
+after-part-requires c κs = search needs
 
 loop-less : tie.Need-loop-less Inv-loop μ-loop
-loop-less c = omega (arith, found (c .before .before .before), c .behind .ensures)
+loop-less c = omega (arith, found (c .before .before .before), c .after-part .ensures)
 
 loop-again : tie.Need-loop-again Inv-loop μ-loop
 loop-again c = let r = c .before .before .before in
     let l = found r in
-    let t = l .turn (c .behind .ensures) in
+    let t = l .turn (c .after-part .ensures) in
     let i = r .before .before .before .loop .inv in (
-      omega (arith, i .0, l, c .behind .ensures),
+      omega (arith, i .0, l, c .after-part .ensures),
       rw (c .before .after .ensures) (rw t at (i .1)),
       omega (arith, rw t at (i .2)),
     )
@@ -84,6 +84,6 @@ read-features-spec =
     enum-known-feature
     after-requires
     add-count
-    behind-requires
+    after-part-requires
     loop-less
     loop-again)

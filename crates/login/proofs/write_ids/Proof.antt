@@ -1,11 +1,12 @@
--- `login::write_ids` meets its contract. The loop's invariant: with the ids of the features from the place on written behind
+-- `login::write_ids` meets its contract. The loop's invariant: with the ids of the features from the place on written after
 -- those that are, all are written, and there is room for them. Assumes nothing.
 use Prim.Native.Nat.{_+_, _-_, _≤_}
 use Rattle.login.proofs.Walk.{Stands, stands, ends}
 use lib.ListN.{length-set, length}
 use native.Mathlib.Numerals.{add-one}
 use Rattle.wire.specs.Over.{overwrite}
-use Rattle.login.specs.Features.{featuresFrom, idsOf}
+use Rattle.login.specs.Features.{idsOf}
+use Rattle.login.specs.Inner.{featuresFrom}
 use mathlib.Core.Path.{_≡_, refl}
 use native.Mathlib.Omega.{arith}
 use borrow.Author.Needs.{needs}
@@ -51,16 +52,16 @@ slice-write-ids c = omega (arith, rw (found (c .before) .turn refl) at (c .befor
 add-count : tie.Need-add-count Inv-loop μ-loop
 add-count c = omega (arith, rw (found (c .before) .turn refl) at (c .before .before .before .before .loop .inv .1))
 
-behind-requires : tie.Need-behind-requires Inv-loop μ-loop
-behind-requires c κs = search needs
+after-part-requires : tie.Need-after-part-requires Inv-loop μ-loop
+after-part-requires c κs = search needs
 
 loop-less : tie.Need-loop-less Inv-loop μ-loop
-loop-less c = omega (arith, found (c .before .before), c .behind .ensures)
+loop-less c = omega (arith, found (c .before .before), c .after-part .ensures)
 
 loop-again : tie.Need-loop-again Inv-loop μ-loop
 unfolding overwrite idsOf
 loop-again c = let r = c .before .before in
-    let t = found r .turn (c .behind .ensures) in
+    let t = found r .turn (c .after-part .ensures) in
     let i = r .before .before .before .loop .inv in (
       simp length-set (i .0),
       simp length-set (omega (arith, rw t at (i .1))),
@@ -81,6 +82,6 @@ write-ids-spec =
     enum-known-feature
     slice-write-ids
     add-count
-    behind-requires
+    after-part-requires
     loop-less
     loop-again)

@@ -2,11 +2,12 @@
 use borrow.Author.Tests.{lt-ltb, le-ltb}
 use native.Mathlib.Omega.{arith}
 use denote.Ref.{now}
-use mathlib.Core.Path.{_≡_, sym, _∙_}
-use Rattle.request.specs.Transaction.{transactionDescriptor}
-use Rattle.request.proofs.Blocks.{block-in}
+use mathlib.Core.Path.{_≡_, refl, sym, _∙_}
+use Rattle.request.specs.Transaction.{transactionDescriptor, descriptorAfter}
+use Rattle.request.proofs.Blocks.{block-in, no-block}
 use Rattle.request.specs.Headers.{allHeaders}
 use Rattle.request.specs.declared.Headers.the-variants.{Length}
+use Rattle.request.specs.declared.Descriptor.the-variants.{Missing}
 use borrow.Author.Needs.{needs}
 use Rattle.request.proofs.parse_transaction_descriptor_header.Statement.{statement}
 use Rattle.request.proofs.parse_transaction_descriptor_header.Tie as tie
@@ -17,12 +18,6 @@ told c = sym (c .before .before .all-headers .ensures) ∙ c .headers .given .1
 
 all-headers-requires : tie.Need-all-headers-requires
 all-headers-requires c κs = search needs
-
-enum-told : tie.Need-enum-told
-enum-told c = search needs
-
-enum-told-2 : tie.Need-enum-told-2
-enum-told-2 c = search needs
 
 enum-known-headers : tie.Need-enum-known-headers
 enum-known-headers c = search needs
@@ -42,15 +37,13 @@ descriptor-in-requires c κs = search needs
 
 returns-2 : tie.Need-returns-2
 unfolding transactionDescriptor
-returns-2 c = simp (← c .before .before .all-headers .ensures, c .enum-told .given .1)
+returns-2 c =
+    let h = c .before in
+    rw (← h .all-headers .ensures) (no-block (λ x. Missing ≡ descriptorAfter (now (h .before .before .args .body)) x) (h .all-headers .result) (c .match .keys1) refl refl)
 
 returns-3 : tie.Need-returns-3
 unfolding transactionDescriptor
-returns-3 c = simp (← c .before .before .all-headers .ensures, c .enum-told2 .given .1)
-
-returns-4 : tie.Need-returns-4
-unfolding transactionDescriptor
-returns-4 c =
+returns-3 c =
     let h = c .before .before .before .before in
     simp (told h, le-ltb (h .headers .given .0 .0) 4 (c .before .before .if1 .left)) (c .descriptor-in .ensures)
 
@@ -59,13 +52,10 @@ parse-transaction-descriptor-header-spec =
     tie.close
     (tie.spec
     all-headers-requires
-    enum-told
-    enum-told-2
     enum-known-headers
     returns
     part-descriptor-in-start
     part-descriptor-in-end
     descriptor-in-requires
     returns-2
-    returns-3
-    returns-4)
+    returns-3)

@@ -3,7 +3,7 @@ use Rattle.wire.specs.Le.{le}
 use Rattle.wire.specs.Be.{be}
 use Rattle.wire.specs.Fields.{flat}
 use Rattle.packet.specs.Reply.{packetOf, replyHeader}
-use Rattle.token.specs.Tokens.{bytesOf}
+use Rattle.token.specs.Tokens.{tokenBytes}
 use Rattle.response.specs.Replies.{attentionReply}
 use borrow.Author.Needs.{needs}
 use Rattle.response.proofs.build_attention_ack_packet.Statement.{statement}
@@ -19,7 +19,7 @@ same-length : tie.Need-same-length
 same-length c = search needs
 
 returns : tie.Need-returns
-unfolding attentionReply packetOf replyHeader bytesOf flat le be
+unfolding attentionReply packetOf replyHeader tokenBytes flat le be
 returns c = c .before .before .fixed .ensures
 
 pub build-attention-ack-packet-spec : {M : Type 1} → statement M

@@ -1,5 +1,5 @@
 -- `response::build_enhanced_routing_envchange_token` meets its contract. Assumes nothing.
-use Rattle.response.specs.Lists.{itemBytes}
+use Rattle.response.specs.Lists.{routeBytes}
 use Rattle.response.specs.Replies.{databaseRouteReply}
 use borrow.Author.Needs.{needs}
 use Rattle.response.proofs.build_enhanced_routing_envchange_token.Statement.{statement}
@@ -12,7 +12,7 @@ same-length : tie.Need-same-length
 same-length c = search needs
 
 returns : tie.Need-returns
-unfolding databaseRouteReply itemBytes
+unfolding databaseRouteReply routeBytes
 returns c = c .before .before .route-token .ensures
 
 pub build-enhanced-routing-envchange-token-spec : {M : Type 1} → statement M

@@ -6,7 +6,7 @@ use Rattle.response.proofs.Ends.{sent, unsent, within}
 use Rattle.wire.proofs.Over.{then}
 use lib.ListN.{length-append}
 use Rattle.wire.specs.Fields.{flat}
-use Rattle.token.specs.Tokens.{done, bytesOf}
+use Rattle.token.specs.Tokens.{done, tokenBytes}
 use Rattle.response.proofs.Lengths.{error-size}
 use Rattle.response.specs.Replies.{errorReply, errorFields}
 use borrow.Author.Needs.{needs}
@@ -37,7 +37,7 @@ returns c = let r = c .before in
     let start = r .before .before .before .before .before in
     let a = start .args in
     let m = now (a .message) in
-    unsent _ _ (now (a .buf)) (r .before .text-fault .ensures) (r .refusal .ensures) (λ z. omega (arith, error-size m, size-done 0 0xC1 0, length-append (flat (errorFields m)) (bytesOf (done 0 0xC1 0)))) (c .if1 .taken)
+    unsent _ _ (now (a .buf)) (r .before .text-fault .ensures) (r .refusal .ensures) (λ z. omega (arith, error-size m, size-done 0 0xC1 0, length-append (flat (errorFields m)) (tokenBytes (done 0 0xC1 0)))) (c .if1 .taken)
 
 cast-write-reply-header : tie.Need-cast-write-reply-header
 cast-write-reply-header c = let t = c .before in omega (arith, within _ _ _ (t .before .refusal .ensures) (t .if1 .left))
@@ -64,7 +64,7 @@ returns-2 c = let v = c .before .before in
     let start = r .before .before .before .before .before in
     let a = start .args in
     let m = now (a .message) in
-    sent _ _ (now (a .buf)) (r .before .text-fault .ensures) (r .refusal .ensures) (λ z. omega (arith, error-size m, size-done 0 0xC1 0, length-append (flat (errorFields m)) (bytesOf (done 0 0xC1 0)))) (t .if1 .left) (w .write-reply-header .ensures) (then (u .put-error .ensures) (v .put-done .ensures))
+    sent _ _ (now (a .buf)) (r .before .text-fault .ensures) (r .refusal .ensures) (λ z. omega (arith, error-size m, size-done 0 0xC1 0, length-append (flat (errorFields m)) (tokenBytes (done 0 0xC1 0)))) (t .if1 .left) (w .write-reply-header .ensures) (then (u .put-error .ensures) (v .put-done .ensures))
 
 pub build-error-response-spec : {M : Type 1} → statement M
 build-error-response-spec =

@@ -2,20 +2,19 @@
 use Rattle.script.specs.Records.{records}
 use Rattle.response.proofs.Lengths.{features-same}
 use denote.Ref.{now}
+use native.Mathlib.Omega.{arith}
+use Rattle.response.proofs.Measuring.{fault-of, size-of, small-of}
 use Rattle.response.proofs.Ends.{refused, wrote}
 use Rattle.response.specs.Replies.{featuresReply}
 use borrow.Author.Needs.{needs}
 use Rattle.response.proofs.build_feature_ext_ack.Statement.{statement}
 use Rattle.response.proofs.build_feature_ext_ack.Tie as tie
 
-slice-aggregate-measure : tie.Need-slice-aggregate-measure
-slice-aggregate-measure c = search needs
-
-measure-requires : tie.Need-measure-requires
-measure-requires c κs = search needs
+measure-features-requires : tie.Need-measure-features-requires
+measure-features-requires c κs = search needs
 
 add-refusal : tie.Need-add-refusal
-add-refusal c = search needs
+add-refusal c = omega (arith, small-of _ _ (c .before .measure-features .ensures))
 
 refusal-requires : tie.Need-refusal-requires
 refusal-requires c κs = search needs
@@ -24,10 +23,10 @@ returns : tie.Need-returns
 unfolding featuresReply
 returns c = let r = c .before in
     let m = r .before .before in
-    let start = m .before .before .before .before in
+    let start = m .before .before .before in
     let a = start .args in
-    let list = m .measure .ensures in
-    refused _ _ (now (a .buf)) (list .fault) (r .refusal .ensures) (λ z. features-same (records (now (a .features))) _ (list .long 0 z)) (c .if1 .taken)
+    let list = m .measure-features .ensures in
+    refused _ _ (now (a .buf)) (fault-of _ _ list) (r .refusal .ensures) (λ z. features-same (records (now (a .features))) _ (size-of _ _ list z)) (c .if1 .taken)
 
 put-feature-ext-ack-requires : tie.Need-put-feature-ext-ack-requires
 put-feature-ext-ack-requires c κs = search needs
@@ -41,17 +40,16 @@ returns-2 c = let w = c .before .before in
     let t = w .before .before in
     let r = t .before in
     let m = r .before .before in
-    let start = m .before .before .before .before in
+    let start = m .before .before .before in
     let a = start .args in
-    let list = m .measure .ensures in
-    wrote _ _ (now (a .buf)) (list .fault) (r .refusal .ensures) (λ z. features-same (records (now (a .features))) _ (list .long 0 z)) (t .if1 .left) (w .put-feature-ext-ack .ensures)
+    let list = m .measure-features .ensures in
+    wrote _ _ (now (a .buf)) (fault-of _ _ list) (r .refusal .ensures) (λ z. features-same (records (now (a .features))) _ (size-of _ _ list z)) (t .if1 .left) (w .put-feature-ext-ack .ensures)
 
 pub build-feature-ext-ack-spec : {M : Type 1} → statement M
 build-feature-ext-ack-spec =
     tie.close
     (tie.spec
-    slice-aggregate-measure
-    measure-requires
+    measure-features-requires
     add-refusal
     refusal-requires
     returns

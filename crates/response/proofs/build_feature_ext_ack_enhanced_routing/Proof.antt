@@ -1,5 +1,5 @@
 -- `response::build_feature_ext_ack_enhanced_routing` meets its contract. Assumes nothing.
-use Rattle.response.specs.Lists.{listFault, featureFault}
+use Rattle.response.specs.Lists.{firstFault, featureFault}
 use Rattle.script.specs.Records.{records, parse}
 use Rattle.wire.specs.Le.{leAt}
 use Rattle.response.specs.Replies.{routingAckReply, featuresReply, featureAck}
@@ -17,7 +17,7 @@ same-length : tie.Need-same-length
 same-length c = search needs
 
 returns : tie.Need-returns
-unfolding routingAckReply featuresReply featureAck listFault featureFault records parse leAt
+unfolding routingAckReply featuresReply featureAck firstFault featureFault records parse leAt
 returns c = c .before .before .build-feature-ext-ack .ensures
 
 pub build-feature-ext-ack-enhanced-routing-spec : {M : Type 1} → statement M

@@ -1,7 +1,7 @@
 -- `response::build_feature_ext_ack_fedauth` meets its contract. Assumes nothing.
 use Rattle.wire.specs.Le.{le, leAt}
 use Rattle.wire.specs.Fields.{flat}
-use Rattle.response.specs.Lists.{featureExtAck, listBytes, itemBytes}
+use Rattle.response.specs.Lists.{featureExtAck, allBytes, featureBytes}
 use Rattle.response.specs.Replies.{fedauthAckReply, featureAck}
 use borrow.Author.Needs.{needs}
 use Rattle.response.proofs.build_feature_ext_ack_fedauth.Statement.{statement}
@@ -17,7 +17,7 @@ same-length : tie.Need-same-length
 same-length c = search needs
 
 returns : tie.Need-returns
-unfolding fedauthAckReply featureAck featureExtAck listBytes itemBytes flat le leAt
+unfolding fedauthAckReply featureAck featureExtAck allBytes featureBytes flat le leAt
 returns c = c .before .before .fixed .ensures
 
 pub build-feature-ext-ack-fedauth-spec : {M : Type 1} → statement M

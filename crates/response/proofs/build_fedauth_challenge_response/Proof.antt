@@ -29,7 +29,7 @@ unfolding challengeReply
 returns c = let r = c .before in
     let start = r .before .before .before .before .before .before in
     let a = start .args in
-    unsent _ _ (now (a .buf)) (r .before .texts-fault .ensures) (r .refusal .ensures) (λ z. challenge-same (now (a .sts-url)) (now (a .spn)) _ (r .before .before .fedauth-info-size .ensures .0)) (c .if1 .taken)
+    unsent _ _ (now (a .buf)) (r .before .texts-fault .ensures) (r .refusal .ensures) (λ z. challenge-same (now (a .sts-url)) (now (a .spn)) _ (r .before .before .fedauth-info-size .ensures)) (c .if1 .taken)
 
 cast-write-reply-header : tie.Need-cast-write-reply-header
 cast-write-reply-header c = let t = c .before in omega (arith, within _ _ _ (t .before .refusal .ensures) (t .if1 .left))
@@ -58,7 +58,7 @@ returns-2 c = let v = c .before .before in
     let r = t .before in
     let start = r .before .before .before .before .before .before in
     let a = start .args in
-    sent _ _ (now (a .buf)) (r .before .texts-fault .ensures) (r .refusal .ensures) (λ z. challenge-same (now (a .sts-url)) (now (a .spn)) _ (r .before .before .fedauth-info-size .ensures .0)) (t .if1 .left) (w .write-reply-header .ensures) (then (wrote-as (u .put-slice .ensures) fedauth-ack) (v .put-fedauth-info .ensures))
+    sent _ _ (now (a .buf)) (r .before .texts-fault .ensures) (r .refusal .ensures) (λ z. challenge-same (now (a .sts-url)) (now (a .spn)) _ (r .before .before .fedauth-info-size .ensures)) (t .if1 .left) (w .write-reply-header .ensures) (then (wrote-as (u .put-slice .ensures) fedauth-ack) (v .put-fedauth-info .ensures))
 
 pub build-fedauth-challenge-response-spec : {M : Type 1} → statement M
 build-fedauth-challenge-response-spec =

@@ -1,5 +1,6 @@
 -- `response::build_fedauth_info_token` meets its contract. Assumes nothing.
 use denote.Ref.{now}
+use native.Mathlib.Omega.{arith}
 use Rattle.response.proofs.Ends.{refused, wrote}
 use Rattle.response.specs.Replies.{fedauthInfoReply}
 use borrow.Author.Needs.{needs}
@@ -20,7 +21,7 @@ unfolding fedauthInfoReply
 returns c = let r = c .before in
     let start = r .before .before .before .before .before .before in
     let a = start .args in
-    refused _ _ (now (a .buf)) (r .before .before .texts-fault .ensures) (r .refusal .ensures) (λ z. r .before .fedauth-info-size .ensures .0) (c .if1 .taken)
+    refused _ _ (now (a .buf)) (r .before .before .texts-fault .ensures) (r .refusal .ensures) (λ z. omega (arith, r .before .fedauth-info-size .ensures)) (c .if1 .taken)
 
 put-fedauth-info-requires : tie.Need-put-fedauth-info-requires
 put-fedauth-info-requires c κs = search needs
@@ -35,7 +36,7 @@ returns-2 c = let w = c .before .before in
     let r = t .before in
     let start = r .before .before .before .before .before .before in
     let a = start .args in
-    wrote _ _ (now (a .buf)) (r .before .before .texts-fault .ensures) (r .refusal .ensures) (λ z. r .before .fedauth-info-size .ensures .0) (t .if1 .left) (w .put-fedauth-info .ensures)
+    wrote _ _ (now (a .buf)) (r .before .before .texts-fault .ensures) (r .refusal .ensures) (λ z. omega (arith, r .before .fedauth-info-size .ensures)) (t .if1 .left) (w .put-fedauth-info .ensures)
 
 pub build-fedauth-info-token-spec : {M : Type 1} → statement M
 build-fedauth-info-token-spec =

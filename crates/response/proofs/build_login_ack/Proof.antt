@@ -3,6 +3,7 @@ use Rattle.response.specs.Replies.{loginAckReply}
 use Rattle.wire.specs.Le.{le}
 use Rattle.wire.specs.Be.{be}
 use Rattle.wire.specs.Fields.{flat}
+use Rattle.text.specs.Units.{unitsOf, units}
 use Rattle.response.specs.Login.{loginAck, wide}
 use borrow.Author.Needs.{needs}
 use Rattle.response.proofs.build_login_ack.Statement.{statement}
@@ -18,7 +19,7 @@ same-length : tie.Need-same-length
 same-length c = search needs
 
 returns : tie.Need-returns
-unfolding loginAckReply loginAck wide le be flat
+unfolding loginAckReply loginAck wide le be flat unitsOf units
 returns c = c .before .before .fixed .ensures
 
 pub build-login-ack-spec : {M : Type 1} → statement M

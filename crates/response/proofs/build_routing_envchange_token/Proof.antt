@@ -1,8 +1,8 @@
 -- `response::build_routing_envchange_token` meets its contract. Assumes nothing.
 use denote.Ref.{now}
 use Rattle.response.proofs.Firsts.{no-more}
-use Rattle.response.specs.Arguments.{textFault}
-use Rattle.response.specs.Lists.{itemBytes}
+use Rattle.text.specs.Arguments.{textFault}
+use Rattle.response.specs.Lists.{routeBytes}
 use Rattle.response.specs.Replies.{routeReply}
 use borrow.Author.Needs.{needs}
 use Rattle.response.proofs.build_routing_envchange_token.Statement.{statement}
@@ -18,7 +18,7 @@ same-length : tie.Need-same-length
 same-length c = search needs
 
 returns : tie.Need-returns
-unfolding routeReply itemBytes
+unfolding routeReply routeBytes
 returns c = let t = c .before .before in
     let start = t .before .before .before .before .before in rw (no-more (textFault (now (start .args .redirect-host)))) at (t .route-token .ensures)
 

@@ -1,7 +1,7 @@
 -- `response::build_transaction_manager_response` meets its contract. Assumes nothing.
 use Rattle.wire.specs.Le.{le}
 use Rattle.wire.specs.Fields.{flat}
-use Rattle.token.specs.Tokens.{bytesOf}
+use Rattle.token.specs.Tokens.{tokenBytes}
 use borrow.Author.Tests.{ne-eqb}
 use Rattle.response.specs.Replies.{transactionReply, doneReply}
 use borrow.Author.Needs.{needs}
@@ -18,7 +18,7 @@ same-length : tie.Need-same-length
 same-length c = search needs
 
 returns : tie.Need-returns
-unfolding transactionReply bytesOf flat le
+unfolding transactionReply tokenBytes flat le
 returns c = let t = c .before .before in rw (t .before .before .before .if1 .taken) (t .fixed .ensures)
 
 slice-aggregate-fixed-2 : tie.Need-slice-aggregate-fixed-2
@@ -31,7 +31,7 @@ same-length-2 : tie.Need-same-length-2
 same-length-2 c = search needs
 
 returns-2 : tie.Need-returns-2
-unfolding transactionReply bytesOf flat le
+unfolding transactionReply tokenBytes flat le
 returns-2 c = let t = c .before .before in rw (t .before .before .before .if2 .taken) (t .fixed2 .ensures)
 
 slice-aggregate-fixed-3 : tie.Need-slice-aggregate-fixed-3
@@ -44,7 +44,7 @@ same-length-3 : tie.Need-same-length-3
 same-length-3 c = search needs
 
 returns-3 : tie.Need-returns-3
-unfolding transactionReply bytesOf flat le
+unfolding transactionReply tokenBytes flat le
 returns-3 c = let t = c .before .before in rw (t .before .before .before .if3 .taken) (t .fixed3 .ensures)
 
 build-done-token-requires : tie.Need-build-done-token-requires
@@ -54,7 +54,7 @@ same-length-4 : tie.Need-same-length-4
 same-length-4 c = search needs
 
 returns-4 : tie.Need-returns-4
-unfolding transactionReply bytesOf flat le doneReply
+unfolding transactionReply tokenBytes flat le doneReply
 returns-4 c = let t = c .before .before in
     let i = t .before .before in simp (ne-eqb _ _ (i .before .before .if1 .left), ne-eqb _ _ (i .before .if2 .left), ne-eqb _ _ (i .if3 .left)) (t .build-done-token .ensures)
 

@@ -6,7 +6,7 @@ use Rattle.response.proofs.Ends.{refused, wrote}
 use Rattle.wire.proofs.Over.{then}
 use mathlib.Core.List.{[]}
 use lib.ListN.{length-append}
-use Rattle.token.specs.Tokens.{done, message, bytesOf}
+use Rattle.token.specs.Tokens.{done, message, tokenBytes}
 use Rattle.response.specs.Replies.{errorTokensReply}
 use borrow.Author.Needs.{needs}
 use Rattle.response.proofs.error_tokens.Statement.{statement}
@@ -32,7 +32,7 @@ unfolding errorTokensReply
 returns c = let r = c .before in
     let start = r .before .before .before .before .before in
     let a = start .args in
-    refused _ _ (now (a .buf)) (r .before .text-fault .ensures) (r .refusal .ensures) (λ z. omega (arith, size-message 0xAA (a .number) 1 (a .severity) (now (a .message)) [] [] 1, size-done (a .status) 0xC1 0, length-append (bytesOf (message 0xAA (a .number) 1 (a .severity) (now (a .message)) [] [] 1)) (bytesOf (done (a .status) 0xC1 0)))) (c .if1 .taken)
+    refused _ _ (now (a .buf)) (r .before .text-fault .ensures) (r .refusal .ensures) (λ z. omega (arith, size-message 0xAA (a .number) 1 (a .severity) (now (a .message)) [] [] 1, size-done (a .status) 0xC1 0, length-append (tokenBytes (message 0xAA (a .number) 1 (a .severity) (now (a .message)) [] [] 1)) (tokenBytes (done (a .status) 0xC1 0)))) (c .if1 .taken)
 
 slice-aggregate-put-message : tie.Need-slice-aggregate-put-message
 slice-aggregate-put-message c = search needs
@@ -57,7 +57,7 @@ returns-2 c = let v = c .before .before in
     let r = t .before in
     let start = r .before .before .before .before .before in
     let a = start .args in
-    wrote _ _ (now (a .buf)) (r .before .text-fault .ensures) (r .refusal .ensures) (λ z. omega (arith, size-message 0xAA (a .number) 1 (a .severity) (now (a .message)) [] [] 1, size-done (a .status) 0xC1 0, length-append (bytesOf (message 0xAA (a .number) 1 (a .severity) (now (a .message)) [] [] 1)) (bytesOf (done (a .status) 0xC1 0)))) (t .if1 .left) (then (w .put-message .ensures) (v .put-done .ensures))
+    wrote _ _ (now (a .buf)) (r .before .text-fault .ensures) (r .refusal .ensures) (λ z. omega (arith, size-message 0xAA (a .number) 1 (a .severity) (now (a .message)) [] [] 1, size-done (a .status) 0xC1 0, length-append (tokenBytes (message 0xAA (a .number) 1 (a .severity) (now (a .message)) [] [] 1)) (tokenBytes (done (a .status) 0xC1 0)))) (t .if1 .left) (then (w .put-message .ensures) (v .put-done .ensures))
 
 pub error-tokens-spec : {M : Type 1} → statement M
 error-tokens-spec =

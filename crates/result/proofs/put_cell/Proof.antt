@@ -2,9 +2,12 @@
 use denote.Ref.{now}
 use lib.ListN.{drop}
 use Rattle.script.specs.Records.{records}
-use Rattle.result.specs.Runs.{ahead}
-use Rattle.result.proofs.Values.{cell-of}
-use Rattle.result.proofs.Turns.{goes-here}
+use Rattle.script.specs.Runs.{ahead}
+use Rattle.token.specs.Tokens.{cell}
+use Rattle.emission.specs.Emission.{valueCell}
+use Rattle.emission.proofs.Values.{cell-known, cell-unknown}
+use Rattle.emission.proofs.Turns.{goes-here}
+use Rattle.result.proofs.Writes.{put-one, put-none}
 use borrow.Author.Needs.{needs}
 use Rattle.result.proofs.put_cell.Statement.{statement}
 use Rattle.result.proofs.put_cell.Tie as tie
@@ -15,206 +18,34 @@ get-u8-requires c κs = search needs
 column-value-of-requires : tie.Need-column-value-of-requires
 column-value-of-requires c κs = search needs
 
+enum-known-value : tie.Need-enum-known-value
+enum-known-value c = search needs
+
+put-value-requires : tie.Need-put-value-requires
+put-value-requires c κs = search needs
+
 enum-told : tie.Need-enum-told
 enum-told c = search needs
-
-get-u8-requires-2 : tie.Need-get-u8-requires-2
-get-u8-requires-2 c κs = search needs
-
-put-tinyint-requires : tie.Need-put-tinyint-requires
-put-tinyint-requires c κs = search needs
-
-enum-told-2 : tie.Need-enum-told-2
-enum-told-2 c = search needs
-
-get-u16-le-requires : tie.Need-get-u16-le-requires
-get-u16-le-requires c κs = search needs
-
-put-smallint-requires : tie.Need-put-smallint-requires
-put-smallint-requires c κs = search needs
-
-enum-told-3 : tie.Need-enum-told-3
-enum-told-3 c = search needs
-
-get-u32-le-requires : tie.Need-get-u32-le-requires
-get-u32-le-requires c κs = search needs
-
-put-int-requires : tie.Need-put-int-requires
-put-int-requires c κs = search needs
-
-enum-told-4 : tie.Need-enum-told-4
-enum-told-4 c = search needs
-
-get-u64-le-requires : tie.Need-get-u64-le-requires
-get-u64-le-requires c κs = search needs
-
-put-bigint-requires : tie.Need-put-bigint-requires
-put-bigint-requires c κs = search needs
-
-enum-told-5 : tie.Need-enum-told-5
-enum-told-5 c = search needs
-
-behind-requires : tie.Need-behind-requires
-behind-requires c κs = search needs
-
-put-nvarchar-requires : tie.Need-put-nvarchar-requires
-put-nvarchar-requires c κs = search needs
-
-enum-told-6 : tie.Need-enum-told-6
-enum-told-6 c = search needs
-
-put-chunked-requires : tie.Need-put-chunked-requires
-put-chunked-requires c κs = search needs
-
-enum-told-7 : tie.Need-enum-told-7
-enum-told-7 c = search needs
-
-put-plp-null-requires : tie.Need-put-plp-null-requires
-put-plp-null-requires c κs = search needs
-
-enum-told-8 : tie.Need-enum-told-8
-enum-told-8 c = search needs
-
-put-chunked-requires-2 : tie.Need-put-chunked-requires-2
-put-chunked-requires-2 c κs = search needs
-
-enum-told-9 : tie.Need-enum-told-9
-enum-told-9 c = search needs
-
-put-chunked-requires-3 : tie.Need-put-chunked-requires-3
-put-chunked-requires-3 c κs = search needs
-
-enum-told-10 : tie.Need-enum-told-10
-enum-told-10 c = search needs
-
-put-null-requires : tie.Need-put-null-requires
-put-null-requires c κs = search needs
 
 same-length : tie.Need-same-length
 same-length c = search needs
 
 returns : tie.Need-returns
-returns c = let a = c .before .before .before .before .before .before .before .before .before .before .before .before .args in
-    rw (cell-of (now (a .p)) (ahead 6 (records (drop (a .next) (now (a .s))))) (c .before .before .before .before .before .before .before .before .get-u8 .ensures) (c .before .before .before .before .before .before .before .column-value-of .ensures) (c .before .before .before .before .before .enum-told .given .1), ← c .before .before .before .get-u82 .ensures)
-    (record { wrote = c .before .before .put-tinyint .ensures; goes = goes-here (now (a .s)) (a .next) (c .before .before .before .before .before .before .before .before .before .before .before .before .pre) })
-
-same-length-2 : tie.Need-same-length-2
-same-length-2 c = search needs
+returns c = let put = c .before .before .put-value .ensures in
+    let a = c .before .before .before .before .before .before .before .before .before .before .before .before .args in
+    let cs = ahead 6 (records (drop (a .next) (now (a .s)))) in
+    let v = c .before .before .before .before .before .value .given in
+    rw (cell-known (now (a .p)) cs (c .before .before .before .before .before .before .before .before .get-u8 .ensures) (c .before .before .before .before .before .before .before .column-value-of .ensures) (v .1))
+    (record { wrote = put-one (cell (valueCell (v .0 .0) (drop 1 (now (a .p))) cs)) (put .wrote); goes = put .goes })
 
 returns-2 : tie.Need-returns-2
-returns-2 c = let a = c .before .before .before .before .before .before .before .before .before .before .before .before .args in
-    rw (cell-of (now (a .p)) (ahead 6 (records (drop (a .next) (now (a .s))))) (c .before .before .before .before .before .before .before .before .get-u8 .ensures) (c .before .before .before .before .before .before .before .column-value-of .ensures) (c .before .before .before .before .before .enum-told2 .given .1), ← c .before .before .before .get-u16-le .ensures)
-    (record { wrote = c .before .before .put-smallint .ensures; goes = goes-here (now (a .s)) (a .next) (c .before .before .before .before .before .before .before .before .before .before .before .before .pre) })
-
-same-length-3 : tie.Need-same-length-3
-same-length-3 c = search needs
-
-returns-3 : tie.Need-returns-3
-returns-3 c = let a = c .before .before .before .before .before .before .before .before .before .before .before .before .args in
-    rw (cell-of (now (a .p)) (ahead 6 (records (drop (a .next) (now (a .s))))) (c .before .before .before .before .before .before .before .before .get-u8 .ensures) (c .before .before .before .before .before .before .before .column-value-of .ensures) (c .before .before .before .before .before .enum-told3 .given .1), ← c .before .before .before .get-u32-le .ensures)
-    (record { wrote = c .before .before .put-int .ensures; goes = goes-here (now (a .s)) (a .next) (c .before .before .before .before .before .before .before .before .before .before .before .before .pre) })
-
-same-length-4 : tie.Need-same-length-4
-same-length-4 c = search needs
-
-returns-4 : tie.Need-returns-4
-returns-4 c = let a = c .before .before .before .before .before .before .before .before .before .before .before .before .args in
-    rw (cell-of (now (a .p)) (ahead 6 (records (drop (a .next) (now (a .s))))) (c .before .before .before .before .before .before .before .before .get-u8 .ensures) (c .before .before .before .before .before .before .before .column-value-of .ensures) (c .before .before .before .before .before .enum-told4 .given .1), ← c .before .before .before .get-u64-le .ensures)
-    (record { wrote = c .before .before .put-bigint .ensures; goes = goes-here (now (a .s)) (a .next) (c .before .before .before .before .before .before .before .before .before .before .before .before .pre) })
-
-same-length-5 : tie.Need-same-length-5
-same-length-5 c = search needs
-
-returns-5 : tie.Need-returns-5
-returns-5 c = let a = c .before .before .before .before .before .before .before .before .before .before .before .before .args in
-    rw (cell-of (now (a .p)) (ahead 6 (records (drop (a .next) (now (a .s))))) (c .before .before .before .before .before .before .before .before .get-u8 .ensures) (c .before .before .before .before .before .before .before .column-value-of .ensures) (c .before .before .before .before .before .enum-told5 .given .1), ← c .before .before .before .behind .ensures)
-    (record { wrote = c .before .before .put-nvarchar .ensures; goes = goes-here (now (a .s)) (a .next) (c .before .before .before .before .before .before .before .before .before .before .before .before .pre) })
-
-same-length-6 : tie.Need-same-length-6
-same-length-6 c = search needs
-
-returns-6 : tie.Need-returns-6
-returns-6 c = let a = c .before .before .before .before .before .before .before .before .before .before .before .args in
-    rw (cell-of (now (a .p)) (ahead 6 (records (drop (a .next) (now (a .s))))) (c .before .before .before .before .before .before .before .get-u8 .ensures) (c .before .before .before .before .before .before .column-value-of .ensures) (c .before .before .before .before .enum-told6 .given .1)) (c .before .before .put-chunked .ensures)
-
-same-length-7 : tie.Need-same-length-7
-same-length-7 c = search needs
-
-returns-7 : tie.Need-returns-7
-returns-7 c = let a = c .before .before .before .before .before .before .before .before .before .before .before .args in
-    rw (cell-of (now (a .p)) (ahead 6 (records (drop (a .next) (now (a .s))))) (c .before .before .before .before .before .before .before .get-u8 .ensures) (c .before .before .before .before .before .before .column-value-of .ensures) (c .before .before .before .before .enum-told7 .given .1))
-    (record { wrote = c .before .before .put-plp-null .ensures; goes = goes-here (now (a .s)) (a .next) (c .before .before .before .before .before .before .before .before .before .before .before .pre) })
-
-same-length-8 : tie.Need-same-length-8
-same-length-8 c = search needs
-
-returns-8 : tie.Need-returns-8
-returns-8 c = let a = c .before .before .before .before .before .before .before .before .before .before .before .args in
-    rw (cell-of (now (a .p)) (ahead 6 (records (drop (a .next) (now (a .s))))) (c .before .before .before .before .before .before .before .get-u8 .ensures) (c .before .before .before .before .before .before .column-value-of .ensures) (c .before .before .before .before .enum-told8 .given .1)) (c .before .before .put-chunked2 .ensures)
-
-same-length-9 : tie.Need-same-length-9
-same-length-9 c = search needs
-
-returns-9 : tie.Need-returns-9
-returns-9 c = let a = c .before .before .before .before .before .before .before .before .before .before .before .args in
-    rw (cell-of (now (a .p)) (ahead 6 (records (drop (a .next) (now (a .s))))) (c .before .before .before .before .before .before .before .get-u8 .ensures) (c .before .before .before .before .before .before .column-value-of .ensures) (c .before .before .before .before .enum-told9 .given .1)) (c .before .before .put-chunked3 .ensures)
-
-same-length-10 : tie.Need-same-length-10
-same-length-10 c = search needs
-
-returns-10 : tie.Need-returns-10
-returns-10 c = let a = c .before .before .before .before .before .before .before .before .before .before .before .args in
-    rw (cell-of (now (a .p)) (ahead 6 (records (drop (a .next) (now (a .s))))) (c .before .before .before .before .before .before .before .get-u8 .ensures) (c .before .before .before .before .before .before .column-value-of .ensures) (c .before .before .before .before .enum-told10 .given .1))
-    (record { wrote = c .before .before .put-null .ensures; goes = goes-here (now (a .s)) (a .next) (c .before .before .before .before .before .before .before .before .before .before .before .pre) })
+returns-2 c = let a = c .before .before .before .before .before .before .before .args in
+    let cs = ahead 6 (records (drop (a .next) (now (a .s)))) in
+    let pre = c .before .before .before .before .before .before .before .pre in
+    rw (cell-unknown (now (a .p)) cs (c .before .before .before .get-u8 .ensures) (c .before .before .column-value-of .ensures) (c .enum-told .given .1))
+    (record { wrote = put-none (now (a .buf)) (a .at) (pre .0); goes = goes-here (now (a .s)) (a .next) (pre .1) })
 
 pub put-cell-spec : {M : Type 1} → statement M
 put-cell-spec =
     tie.close
-    (tie.spec
-    get-u8-requires
-    column-value-of-requires
-    enum-told
-    get-u8-requires-2
-    put-tinyint-requires
-    enum-told-2
-    get-u16-le-requires
-    put-smallint-requires
-    enum-told-3
-    get-u32-le-requires
-    put-int-requires
-    enum-told-4
-    get-u64-le-requires
-    put-bigint-requires
-    enum-told-5
-    behind-requires
-    put-nvarchar-requires
-    enum-told-6
-    put-chunked-requires
-    enum-told-7
-    put-plp-null-requires
-    enum-told-8
-    put-chunked-requires-2
-    enum-told-9
-    put-chunked-requires-3
-    enum-told-10
-    put-null-requires
-    same-length
-    returns
-    same-length-2
-    returns-2
-    same-length-3
-    returns-3
-    same-length-4
-    returns-4
-    same-length-5
-    returns-5
-    same-length-6
-    returns-6
-    same-length-7
-    returns-7
-    same-length-8
-    returns-8
-    same-length-9
-    returns-9
-    same-length-10
-    returns-10)
+    (tie.spec get-u8-requires column-value-of-requires enum-known-value put-value-requires enum-told same-length returns returns-2)

@@ -1,5 +1,7 @@
 -- `result::put_chunks` meets its contract. Assumes nothing.
-use Rattle.result.proofs.Writes.{ahead-other, ahead-cut, ahead-end, Owes, chunksLeft, chunks-more, owes-less, owes-last, chunks-none}
+use Rattle.emission.proofs.Stops.{stops}
+use Rattle.emission.proofs.Aheads.{ahead-other, ahead-cut, ahead-end}
+use Rattle.result.proofs.Writes.{Owes, chunksLeft, chunks-more, owes-less, owes-last, chunks-none}
 use Prim.Native.Nat.{ℕ, _+_, _-_, _≤_}
 use lib.ListN.{length}
 use mathlib.Core.List.{List}
@@ -82,9 +84,6 @@ loop-again c = let r = c .before .before .before .before .before .before .before
     let e : recordAt (s r) (here r) ≡ Record 6 (start r) (size r) = found r ∙ ap (λ (j : ℕ). Record j (start r) (size r)) (c .before .before .before .before .before .if1 .left) in
     (lies r .1, search needs, owes-less _ _ (chunksLeft (s r) (c .before .before .before .before .before .before .before .before .before .before .before .before .before .args .«from»)) (l .buf) (l .to) (chunksLeft (s r) (here r)) (chunksLeft (s r) (start r + size r)) (l .inv .2) (chunks-more (s r) (here r) (start r) (size r) e) (c .before .before .put-chunk .ensures))
 
-enum-told : tie.Need-enum-told Inv-loop μ-loop
-enum-told c = search needs
-
 put-u32-le-requires-2 : tie.Need-put-u32-le-requires-2 Inv-loop μ-loop
 put-u32-le-requires-2 c κs = search needs
 
@@ -92,21 +91,10 @@ same-length-2 : tie.Need-same-length-2 Inv-loop μ-loop
 same-length-2 c = search needs
 
 returns-2 : tie.Need-returns-2 Inv-loop μ-loop
-returns-2 c = let l = c .before .before .before .before .before .before .before .loop in
-    owes-last _ _ _ (l .buf) (l .to) (chunksLeft _ (l .place)) (l .inv .2) (chunks-none _ (l .place) (ahead-cut _ (c .before .before .before .before .before .before .before .loop .place) 6 (sym (c .before .before .before .before .before .before .record-at .ensures) ∙ c .before .before .before .before .enum-told .given .1))) (c .before .before .put-u32-le2 .ensures)
-
-enum-told-2 : tie.Need-enum-told-2 Inv-loop μ-loop
-enum-told-2 c = search needs
-
-put-u32-le-requires-3 : tie.Need-put-u32-le-requires-3 Inv-loop μ-loop
-put-u32-le-requires-3 c κs = search needs
-
-same-length-3 : tie.Need-same-length-3 Inv-loop μ-loop
-same-length-3 c = search needs
-
-returns-3 : tie.Need-returns-3 Inv-loop μ-loop
-returns-3 c = let l = c .before .before .before .before .before .before .before .loop in
-    owes-last _ _ _ (l .buf) (l .to) (chunksLeft _ (l .place)) (l .inv .2) (chunks-none _ (l .place) (ahead-end _ (c .before .before .before .before .before .before .before .loop .place) 6 (sym (c .before .before .before .before .before .before .record-at .ensures) ∙ c .before .before .before .before .enum-told2 .given .1))) (c .before .before .put-u32-le3 .ensures)
+returns-2 c = let l = c .before .before .before .before .before .before .loop in
+    let s = now (c .before .before .before .before .before .before .before .before .before .args .s) in
+    let none = stops (c .before .before .before .before .before .record-at .ensures) (c .before .before .before .before .match .keys2) (ahead-cut s (l .place) 6) (ahead-end s (l .place) 6) in
+    owes-last _ _ _ (l .buf) (l .to) (chunksLeft s (l .place)) (l .inv .2) (chunks-none s (l .place) none) (c .before .before .put-u32-le2 .ensures)
 
 pub put-chunks-spec : {M : Type 1} → statement M
 put-chunks-spec =
@@ -127,11 +115,6 @@ put-chunks-spec =
     put-chunk-requires
     loop-less
     loop-again
-    enum-told
     put-u32-le-requires-2
     same-length-2
-    returns-2
-    enum-told-2
-    put-u32-le-requires-3
-    same-length-3
-    returns-3)
+    returns-2)

@@ -1,5 +1,7 @@
 -- `result::put_columns` meets its contract. Assumes nothing.
-use Rattle.result.proofs.Writes.{ahead-other, ahead-cut, ahead-end, wrote-nothing, place-in, Owes, columnsLeft, columns-more, owes-less, owes-last, columns-none}
+use Rattle.emission.proofs.Stops.{stops}
+use Rattle.emission.proofs.Aheads.{ahead-other, ahead-cut, ahead-end}
+use Rattle.result.proofs.Writes.{wrote-nothing, place-in, Owes, columnsLeft, columns-more, owes-less, owes-last, columns-none}
 use Prim.Native.Nat.{ℕ, _+_, _-_, _≤_}
 use lib.ListN.{length}
 use mathlib.Core.List.{List}
@@ -79,25 +81,14 @@ loop-again c = let r = c .before .before .before .before .before .before .before
     let e : recordAt (s r) (here r) ≡ Record 2 (start r) (size r) = found r ∙ ap (λ (j : ℕ). Record j (start r) (size r)) (c .before .before .before .before .before .if1 .left) in
     (lies r .1, search needs, place-in (c .before .before .put-column .ensures), owes-less _ _ (columnsLeft (s r) (c .before .before .before .before .before .before .before .before .before .before .before .before .before .args .«from»)) (l .buf) (l .to) (columnsLeft (s r) (here r)) (columnsLeft (s r) (start r + size r)) (l .inv .3) (columns-more (s r) (here r) (start r) (size r) e) (c .before .before .put-column .ensures))
 
-enum-told : tie.Need-enum-told Inv-loop μ-loop
-enum-told c = search needs
-
 same-length-2 : tie.Need-same-length-2 Inv-loop μ-loop
 same-length-2 c = search needs
 
 returns-2 : tie.Need-returns-2 Inv-loop μ-loop
-returns-2 c = let l = c .before .before .before .loop in
-    owes-last _ _ _ (l .buf) (l .to) (columnsLeft _ (l .place)) (l .inv .3) (columns-none _ (l .place) (ahead-cut _ (c .before .before .before .loop .place) 2 (sym (c .before .before .record-at .ensures) ∙ c .enum-told .given .1))) (wrote-nothing (l .buf) (l .to) (l .inv .2))
-
-enum-told-2 : tie.Need-enum-told-2 Inv-loop μ-loop
-enum-told-2 c = search needs
-
-same-length-3 : tie.Need-same-length-3 Inv-loop μ-loop
-same-length-3 c = search needs
-
-returns-3 : tie.Need-returns-3 Inv-loop μ-loop
-returns-3 c = let l = c .before .before .before .loop in
-    owes-last _ _ _ (l .buf) (l .to) (columnsLeft _ (l .place)) (l .inv .3) (columns-none _ (l .place) (ahead-end _ (c .before .before .before .loop .place) 2 (sym (c .before .before .record-at .ensures) ∙ c .enum-told2 .given .1))) (wrote-nothing (l .buf) (l .to) (l .inv .2))
+returns-2 c = let l = c .before .before .loop in
+    let s = now (c .before .before .before .before .before .args .s) in
+    let none = stops (c .before .record-at .ensures) (c .match .keys2) (ahead-cut s (l .place) 2) (ahead-end s (l .place) 2) in
+    owes-last _ _ _ (l .buf) (l .to) (columnsLeft s (l .place)) (l .inv .3) (columns-none s (l .place) none) (wrote-nothing (l .buf) (l .to) (l .inv .2))
 
 pub put-columns-spec : {M : Type 1} → statement M
 put-columns-spec =
@@ -117,9 +108,5 @@ put-columns-spec =
     put-column-requires
     loop-less
     loop-again
-    enum-told
     same-length-2
-    returns-2
-    enum-told-2
-    same-length-3
-    returns-3)
+    returns-2)

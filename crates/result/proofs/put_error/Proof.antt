@@ -1,8 +1,8 @@
 -- `result::put_error` meets its contract. Assumes nothing.
 use denote.Ref.{now}
 use Rattle.wire.specs.Over.{Wrote}
-use Rattle.token.specs.Tokens.{bytesOf}
-use Rattle.result.specs.Emission.{errorToken, doneToken}
+use Rattle.token.specs.Tokens.{tokenBytes}
+use Rattle.emission.specs.Emission.{errorToken, doneToken}
 use Rattle.result.proofs.Writes.{put-two}
 use borrow.Author.Needs.{needs}
 use Rattle.result.proofs.put_error.Statement.{statement}
@@ -17,8 +17,8 @@ get-u8-requires c κs = search needs
 slice-aggregate-none : tie.Need-slice-aggregate-none
 slice-aggregate-none c = search needs
 
-behind-requires : tie.Need-behind-requires
-behind-requires c κs = search needs
+rest-after-requires : tie.Need-rest-after-requires
+rest-after-requires c κs = search needs
 
 put-message-requires : tie.Need-put-message-requires
 put-message-requires c κs = search needs
@@ -32,7 +32,7 @@ same-length c = search needs
 returns : tie.Need-returns
 returns c = let a = c .before .before .before .before .before .before .before .before .before .before .before .before .before .before .args in
     let p = now (a .p) in
-    let error : Wrote _ _ (bytesOf (errorToken p)) _ _ = rw (c .before .before .before .before .before .before .before .behind .ensures, c .before .before .before .before .before .before .before .before .before .before .get-u8 .ensures, c .before .before .before .before .before .before .before .before .before .before .before .get-u32-le .ensures) at (c .before .before .before .before .before .before .put-message .ensures) in
+    let error : Wrote _ _ (tokenBytes (errorToken p)) _ _ = rw (c .before .before .before .before .before .before .before .rest-after .ensures, c .before .before .before .before .before .before .before .before .before .before .get-u8 .ensures, c .before .before .before .before .before .before .before .before .before .before .before .get-u32-le .ensures) at (c .before .before .before .before .before .before .put-message .ensures) in
     put-two (errorToken p) (doneToken (a .status) 0) error (c .before .before .put-done .ensures)
 
 pub put-error-spec : {M : Type 1} → statement M
@@ -42,7 +42,7 @@ put-error-spec =
     get-u32-le-requires
     get-u8-requires
     slice-aggregate-none
-    behind-requires
+    rest-after-requires
     put-message-requires
     put-done-requires
     same-length

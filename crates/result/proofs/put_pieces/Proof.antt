@@ -8,7 +8,8 @@ use mathlib.Core.List.{List}
 use Rattle.script.specs.declared.Found.the-variants.{Record}
 use Rattle.script.specs.Records.{recordAt}
 use Rattle.script.proofs.Walk
-use Rattle.result.proofs.Replies.{pieces-first, pieces-cut, pieces-end}
+use Rattle.emission.proofs.Stops.{stops}
+use Rattle.emission.proofs.Replies.{walked-first, walked-cut, walked-end}
 use Rattle.result.proofs.Writes.{put-none}
 use borrow.Author.Needs.{needs}
 use Rattle.result.proofs.put_pieces.Statement.{statement}
@@ -52,23 +53,16 @@ part-put-sets-end c = omega (arith, lies (c .before .before))
 put-sets-requires : tie.Need-put-sets-requires
 put-sets-requires c κs = (c .before .before .before .before .before .before .before .before .pre, lies (c .before .before .before) .1)
 
-enum-told : tie.Need-enum-told
-enum-told c = search needs
-
-enum-told-2 : tie.Need-enum-told-2
-enum-told-2 c = search needs
-
 same-length : tie.Need-same-length
 same-length c = search needs
 
 returns : tie.Need-returns
-returns c = let r = c .before .before .before .before .before .before in rw (pieces-first (s r) _ (from r) (size r) (found r)) (c .before .before .put-sets .ensures)
+returns c = let r = c .before .before .before .before .before .before in rw (walked-first (s r) _ (from r) (size r) (found r)) (c .before .before .put-sets .ensures)
 
 returns-2 : tie.Need-returns-2
-returns-2 c = let a = c .before .before .before .before .before .args in rw (pieces-cut (now (a .s)) (sym (c .before .before .record-at .ensures) ∙ c .enum-told .given .1)) (put-none (now (a .buf)) (a .at) (c .before .before .before .before .before .pre))
-
-returns-3 : tie.Need-returns-3
-returns-3 c = let a = c .before .before .before .before .before .args in rw (pieces-end (now (a .s)) (sym (c .before .before .record-at .ensures) ∙ c .enum-told2 .given .1)) (put-none (now (a .buf)) (a .at) (c .before .before .before .before .before .pre))
+returns-2 c = let a = c .before .before .before .before .args in
+    let none = stops (c .before .record-at .ensures) (c .match .keys2) (walked-cut (now (a .s))) (walked-end (now (a .s))) in
+    rw none (put-none (now (a .buf)) (a .at) (c .before .before .before .before .pre))
 
 pub put-pieces-spec : {M : Type 1} → statement M
 put-pieces-spec =
@@ -81,9 +75,6 @@ put-pieces-spec =
     part-put-sets-start
     part-put-sets-end
     put-sets-requires
-    enum-told
-    enum-told-2
     same-length
     returns
-    returns-2
-    returns-3)
+    returns-2)

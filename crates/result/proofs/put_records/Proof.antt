@@ -5,7 +5,8 @@ use mathlib.Core.List.{List}
 use Rattle.script.specs.declared.Found.the-variants.{Record}
 use Rattle.script.specs.Records.{recordAt}
 use Rattle.script.proofs.Walk
-use Rattle.result.specs.Emission.{rowsAfter}
+use Rattle.emission.specs.Walk.{rowsAfter}
+use Rattle.emission.proofs.Stops.{stops}
 use Rattle.result.proofs.Writes.{Owes, owes-less, owes-last, place-in, recordsLeft, records-more, records-cut, records-end}
 use mathlib.Core.Path.{_≡_, refl, sym, _∙_}
 use native.Mathlib.Omega.{arith}
@@ -86,9 +87,6 @@ loop-again c = let r = c .before .before .before .before .before .before .before
           (owes-less _ _ (recordsLeft (s r) (c .before .before .before .before .before .before .before .before .before .before .before .before .before .args .«from») 0) (l .buf) (l .to) (recordsLeft (s r) (here r) (l .rows)) (recordsLeft (s r) next (rowsAfter (l .rows) k)) (l .inv .4) (records-more (s r) (here r) (l .rows) k (start r) (size r) next (found r) g) (put .ensures .wrote)),
     )
 
-enum-told : tie.Need-enum-told Inv-loop μ-loop
-enum-told c = search needs
-
 put-done-requires : tie.Need-put-done-requires Inv-loop μ-loop
 put-done-requires c κs = search needs
 
@@ -96,21 +94,10 @@ same-length : tie.Need-same-length Inv-loop μ-loop
 same-length c = search needs
 
 returns : tie.Need-returns Inv-loop μ-loop
-returns c = let l = c .before .before .before .before .before .before .before .loop in
-    owes-last _ _ _ (l .buf) (l .to) (recordsLeft _ (l .place) (l .rows)) (l .inv .4) (records-cut _ (l .place) (l .rows) (sym (c .before .before .before .before .before .before .record-at .ensures) ∙ c .before .before .before .before .enum-told .given .1)) (c .before .before .put-done .ensures)
-
-enum-told-2 : tie.Need-enum-told-2 Inv-loop μ-loop
-enum-told-2 c = search needs
-
-put-done-requires-2 : tie.Need-put-done-requires-2 Inv-loop μ-loop
-put-done-requires-2 c κs = search needs
-
-same-length-2 : tie.Need-same-length-2 Inv-loop μ-loop
-same-length-2 c = search needs
-
-returns-2 : tie.Need-returns-2 Inv-loop μ-loop
-returns-2 c = let l = c .before .before .before .before .before .before .before .loop in
-    owes-last _ _ _ (l .buf) (l .to) (recordsLeft _ (l .place) (l .rows)) (l .inv .4) (records-end _ (l .place) (l .rows) (sym (c .before .before .before .before .before .before .record-at .ensures) ∙ c .before .before .before .before .enum-told2 .given .1)) (c .before .before .put-done2 .ensures)
+returns c = let l = c .before .before .before .before .before .before .loop in
+    let s = now (c .before .before .before .before .before .before .before .before .before .args .s) in
+    let last = stops (c .before .before .before .before .before .record-at .ensures) (c .before .before .before .before .match .keys2) (records-cut s (l .place) (l .rows)) (records-end s (l .place) (l .rows)) in
+    owes-last _ _ _ (l .buf) (l .to) (recordsLeft s (l .place) (l .rows)) (l .inv .4) last (c .before .before .put-done .ensures)
 
 pub put-records-spec : {M : Type 1} → statement M
 put-records-spec =
@@ -129,11 +116,6 @@ put-records-spec =
     rows-after-requires
     loop-less
     loop-again
-    enum-told
     put-done-requires
     same-length
-    returns
-    enum-told-2
-    put-done-requires-2
-    same-length-2
-    returns-2)
+    returns)

@@ -2,9 +2,12 @@
 use denote.Ref.{now}
 use lib.ListN.{drop}
 use Rattle.script.specs.Records.{records}
-use Rattle.result.specs.Runs.{ahead}
+use Rattle.script.specs.Runs.{ahead}
+use mathlib.Core.Path.{ap}
+use Rattle.emission.specs.declared.Run.{Run}
+use Rattle.emission.specs.Runs.{runOf}
 use Rattle.result.proofs.Writes.{put-begins, place-in}
-use Rattle.result.proofs.Turns.{goes-columns}
+use Rattle.emission.proofs.Turns.{goes-columns}
 use borrow.Author.Needs.{needs}
 use Rattle.result.proofs.put_set.Statement.{statement}
 use Rattle.result.proofs.put_set.Tie as tie
@@ -25,12 +28,13 @@ same-length : tie.Need-same-length
 same-length c = search needs
 
 returns : tie.Need-returns
+unfolding runOf
 returns c = let a = c .before .before .before .before .before .before .before .before .before .before .before .before .before .before .before .before .args in
     let run = c .before .before .before .before .before .before .before .before .before .before .before .before .run-at in
     let cs = ahead 2 (records (drop (a .next) (now (a .s)))) in
     record {
-      wrote = put-begins (now (a .class)) cs (rw (run .ensures .count) at (c .before .before .before .before .before .before .before .before .before .before .put-colmetadata .ensures)) (c .before .before .before .before .before .before .put-columns .ensures) (c .before .before .put-slice .ensures);
-      goes = goes-columns (now (a .s)) (a .next) (run .result) (run .ensures);
+      wrote = put-begins (now (a .classification)) cs (rw (ap (λ (r : Run). r .count) (run .ensures)) at (c .before .before .before .before .before .before .before .before .before .before .put-colmetadata .ensures)) (c .before .before .before .before .before .before .put-columns .ensures) (c .before .before .put-slice .ensures);
+      goes = goes-columns (now (a .s)) (a .next) (c .before .before .before .before .before .before .before .before .before .before .before .before .before .before .before .before .pre) (run .ensures);
     }
 
 pub put-set-spec : {M : Type 1} → statement M

@@ -4,8 +4,8 @@ use denote.Ref.{now}
 use mathlib.Core.List.{_++_}
 use lib.ListN.{drop}
 use Rattle.script.specs.Records.{records}
-use Rattle.result.specs.Emission.{setPieces, emitFrom}
-use Rattle.result.specs.Inner.{errorFound}
+use Rattle.emission.specs.Walk.{beginPieces, emitFrom}
+use Rattle.emission.specs.Runs.{errorFound}
 use Rattle.result.proofs.Writes.{place-in, put-pieces}
 use borrow.Author.Needs.{needs}
 use Rattle.result.proofs.put_sets.Statement.{statement}
@@ -43,7 +43,7 @@ same-length c = search needs
 
 returns : tie.Need-returns
 returns c = let a = c .before .before .before .before .before .before .before .before .before .before .before .before .args in
-    let found = sym (c .before .before .before .before .before .before .before .before .error-in .ensures) ∙ ap (errorFound (now (a .s))) (c .before .before .before .before .before .before .part .given .1) in
+    let found = sym (c .before .before .before .before .before .before .before .before .error-in .ensures .1) ∙ ap (errorFound (now (a .s))) (c .before .before .before .before .before .before .part .given .1) in
     rw (found, ← c .before .before .before .part-of .ensures) (c .before .before .put-error .ensures)
 
 same-length-2 : tie.Need-same-length-2
@@ -52,11 +52,11 @@ same-length-2 c = search needs
 returns-2 : tie.Need-returns-2
 returns-2 c = let a = c .before .before .before .before .before .before .before .before .before .before .before .before .before .before .before .before .before .before .before .args in
     let rs = records (drop (a .next) (now (a .s))) in
-    let missing = sym (c .before .before .before .before .before .before .before .before .before .before .before .before .before .before .before .error-in .ensures) ∙ ap (errorFound (now (a .s))) (c .before .before .before .before .before .before .before .before .before .before .before .before .before .enum-told .given .1) in
+    let missing = sym (c .before .before .before .before .before .before .before .before .before .before .before .before .before .before .before .error-in .ensures .1) ∙ ap (errorFound (now (a .s))) (c .before .before .before .before .before .before .before .before .before .before .before .before .before .enum-told .given .1) in
     let set = c .before .before .before .before .before .before .put-set .ensures in
-    rw (missing, ← c .before .before .before .before .before .before .before .before .before .before .before .error-in2 .ensures)
-    (put-pieces _ (setPieces (now (a .class)) rs ++ emitFrom 0 rs) (c .before .before .before .before .before .before .before .before .before .before .put-lead .ensures)
-    (put-pieces (setPieces (now (a .class)) rs) (emitFrom 0 rs) (set .wrote) (rw (set .goes .same 0) (c .before .before .put-records .ensures))))
+    rw (missing, ← c .before .before .before .before .before .before .before .before .before .before .before .error-in2 .ensures .1)
+    (put-pieces _ (beginPieces (now (a .classification)) rs ++ emitFrom 0 rs) (c .before .before .before .before .before .before .before .before .before .before .put-lead .ensures)
+    (put-pieces (beginPieces (now (a .classification)) rs) (emitFrom 0 rs) (set .wrote) (rw (set .goes .same 0) (c .before .before .put-records .ensures))))
 
 pub put-sets-spec : {M : Type 1} → statement M
 put-sets-spec =

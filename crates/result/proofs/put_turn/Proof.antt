@@ -4,10 +4,11 @@ use lib.ListN.{drop}
 use borrow.Author.Tests.{ne-eqb}
 use Rattle.script.specs.Records.{records}
 use Rattle.token.specs.Tokens.{row, cell}
-use Rattle.result.specs.Runs.{ahead}
-use Rattle.result.specs.Emission.{infoToken, cellOf, setPieces, piecesOf, doneToken, moreStatus}
-use Rattle.result.proofs.Writes.{put-one, put-behind, put-none}
-use Rattle.result.proofs.Turns.{goes-here}
+use Rattle.script.specs.Runs.{ahead}
+use Rattle.emission.specs.Emission.{infoToken, doneToken, moreStatus}
+use Rattle.emission.specs.Walk.{beginPieces, piecesOf}
+use Rattle.result.proofs.Writes.{put-one, put-before, put-none}
+use Rattle.emission.proofs.Turns.{goes-here}
 use borrow.Author.Needs.{needs}
 use Rattle.result.proofs.put_turn.Statement.{statement}
 use Rattle.result.proofs.put_turn.Tie as tie
@@ -37,7 +38,7 @@ returns : tie.Need-returns
 unfolding piecesOf
 returns c = let a = c .before .before .before .before .before .before .before .before .before .before .before .before .args in
     let set = c .before .before .put-set .ensures in
-    rw (c .before .before .before .before .before .before .before .before .match .keys1) (record { wrote = put-behind (doneToken moreStatus (a .rows)) (setPieces (now (a .p)) (records (drop (a .next) (now (a .s))))) (c .before .before .before .before .before .before .put-done .ensures) (set .wrote); goes = set .goes })
+    rw (c .before .before .before .before .before .before .before .before .match .keys1) (record { wrote = put-before (doneToken moreStatus (a .rows)) (beginPieces (now (a .p)) (records (drop (a .next) (now (a .s))))) (c .before .before .before .before .before .before .put-done .ensures) (set .wrote); goes = set .goes })
 
 same-length-2 : tie.Need-same-length-2
 same-length-2 c = search needs
@@ -68,9 +69,7 @@ same-length-5 c = search needs
 
 returns-5 : tie.Need-returns-5
 unfolding piecesOf
-returns-5 c = let put = c .before .before .put-cell .ensures in
-    let a = c .before .before .before .before .before .before .before .before .args in
-    rw (c .before .before .before .before .match .keys5) (record { wrote = put-one (cell (cellOf (now (a .p)) (ahead 6 (records (drop (a .next) (now (a .s))))))) (put .wrote); goes = put .goes })
+returns-5 c = rw (c .before .before .before .before .match .keys5) (c .before .before .put-cell .ensures)
 
 returns-6 : tie.Need-returns-6
 unfolding piecesOf

@@ -1,6 +1,6 @@
 -- `result::rows_after` meets its contract. Assumes nothing.
 use native.Mathlib.Omega.{arith}
-use Rattle.result.specs.Emission.{rowsAfter}
+use Rattle.emission.specs.Walk.{rowsAfter}
 use borrow.Author.Tests.{ne-eqb}
 use native.Mathlib.Numerals.{add-one}
 use borrow.Author.Needs.{needs}

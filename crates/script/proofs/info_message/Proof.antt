@@ -1,6 +1,6 @@
 -- `script::info_message` meets its contract. Assumes nothing.
 use mathlib.Core.Path.{_∙_}
-use Rattle.wire.specs.Part.{bytesOf}
+use Rattle.wire.specs.Part.{partBytes}
 use borrow.Author.Needs.{needs}
 use Rattle.script.proofs.info_message.Statement.{statement}
 use Rattle.script.proofs.info_message.Tie as tie
@@ -18,7 +18,7 @@ part-of-requires : tie.Need-part-of-requires
 part-of-requires c κs = search needs
 
 returns : tie.Need-returns
-unfolding bytesOf
+unfolding partBytes
 returns c = c .part-of .ensures ∙ rw (c .before .get-u16-le .ensures)
 
 pub info-message-spec : {M : Type 1} → statement M

@@ -1,6 +1,6 @@
 -- `script::info_server` meets its contract. Assumes nothing.
 use mathlib.Core.Path.{_∙_}
-use Rattle.wire.specs.Part.{bytesOf}
+use Rattle.wire.specs.Part.{partBytes}
 use borrow.Author.Needs.{needs}
 use Rattle.script.proofs.info_server.Statement.{statement}
 use Rattle.script.proofs.info_server.Tie as tie
@@ -30,7 +30,7 @@ part-of-requires : tie.Need-part-of-requires
 part-of-requires c κs = search needs
 
 returns : tie.Need-returns
-unfolding bytesOf
+unfolding partBytes
 returns c = c .part-of .ensures ∙ rw (c .before .before .get-u16-le .ensures, c .before .get-u16-le2 .ensures)
 
 pub info-server-spec : {M : Type 1} → statement M

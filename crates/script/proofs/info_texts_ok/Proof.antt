@@ -1,6 +1,6 @@
 -- `script::info_texts_ok` meets its contract. Assumes nothing.
 use denote.Ref.{now}
-use Rattle.script.specs.Shape.{message, server, procedure}
+use Rattle.script.specs.Shape.{messageText, serverName, procedureName}
 use Rattle.script.proofs.Verdicts.{three}
 use Rattle.text.specs.Surrogates.{wellFormed}
 use mathlib.Core.Path.{ap, _∙_}
@@ -33,7 +33,7 @@ returns c = let m = c .before .before .before .before .is-well-formed .ensures �
     let v = c .before .before .is-well-formed2 .ensures ∙ ap wellFormed (c .before .before .before .info-server .ensures) in
     let p = c .is-well-formed3 .ensures ∙ ap wellFormed (c .before .info-procedure .ensures) in
     let q = now (c .before .before .before .before .before .before .before .args .p) in
-    rw (m, v, p) (three (wellFormed (message q)) (wellFormed (server q)) (wellFormed (procedure q)))
+    rw (m, v, p) (three (wellFormed (messageText q)) (wellFormed (serverName q)) (wellFormed (procedureName q)))
 
 pub info-texts-ok-spec : {M : Type 1} → statement M
 info-texts-ok-spec =

@@ -1,4 +1,8 @@
 -- `script::is_allowed` meets its contract. Assumes nothing.
+use Rattle.script.proofs.Stages.{in-chunks, or-none, or-more}
+use lib.Dec.{eqb}
+use Rattle.script.specs.declared.Stage.the-variants.{Leading}
+use Rattle.script.specs.Order.{allowed}
 use borrow.Author.Needs.{needs}
 use Rattle.script.proofs.is_allowed.Statement.{statement}
 use Rattle.script.proofs.is_allowed.Tie as tie
@@ -30,26 +34,17 @@ enum-told-5 c = search needs
 after-cell-requires : tie.Need-after-cell-requires
 after-cell-requires c κs = search needs
 
-enum-told-6 : tie.Need-enum-told-6
-enum-told-6 c = search needs
-
 after-cell-requires-2 : tie.Need-after-cell-requires-2
 after-cell-requires-2 c κs = search needs
 
-enum-told-7 : tie.Need-enum-told-7
-enum-told-7 c = search needs
-
-after-cell-requires-3 : tie.Need-after-cell-requires-3
-after-cell-requires-3 c κs = search needs
-
-enum-told-8 : tie.Need-enum-told-8
-enum-told-8 c = search needs
+enum-told-6 : tie.Need-enum-told-6
+enum-told-6 c = search needs
 
 returns : tie.Need-returns
-returns c = rw (c .enum-told .given .1)
+returns c = rw (c .enum-told .given .1) (or-none (eqb (c .before .before .args .kind) 1))
 
 returns-2 : tie.Need-returns-2
-returns-2 c = rw (c .before .enum-told2 .given .1, c .after-leading .ensures)
+returns-2 c = rw (c .before .enum-told2 .given .1, c .after-leading .ensures) (or-more (eqb (c .before .before .before .args .kind) 2) (eqb (c .before .before .before .args .kind) 7) (allowed Leading (c .before .before .before .args .kind)))
 
 returns-3 : tie.Need-returns-3
 returns-3 c = rw (c .before .enum-told3 .given .1, c .after-leading2 .ensures)
@@ -61,13 +56,10 @@ returns-5 : tie.Need-returns-5
 returns-5 c = rw (c .before .enum-told5 .given .1, c .after-cell .ensures)
 
 returns-6 : tie.Need-returns-6
-returns-6 c = rw (c .before .enum-told6 .given .1, c .after-cell2 .ensures)
+returns-6 c = rw (c .after-cell2 .ensures) (in-chunks (c .before .before .args .stage) (c .before .before .args .kind) (c .before .match .keys6))
 
 returns-7 : tie.Need-returns-7
-returns-7 c = rw (c .before .enum-told7 .given .1, c .after-cell3 .ensures)
-
-returns-8 : tie.Need-returns-8
-returns-8 c = rw (c .enum-told8 .given .1)
+returns-7 c = rw (c .enum-told6 .given .1) (or-none (eqb (c .before .before .args .kind) 9))
 
 pub is-allowed-spec : {M : Type 1} → statement M
 is-allowed-spec =
@@ -82,16 +74,12 @@ is-allowed-spec =
     after-info-requires
     enum-told-5
     after-cell-requires
-    enum-told-6
     after-cell-requires-2
-    enum-told-7
-    after-cell-requires-3
-    enum-told-8
+    enum-told-6
     returns
     returns-2
     returns-3
     returns-4
     returns-5
     returns-6
-    returns-7
-    returns-8)
+    returns-7)

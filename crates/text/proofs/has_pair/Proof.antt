@@ -2,10 +2,15 @@
 -- Assumes nothing.
 use Rattle.text.proofs.Scan.{kind-at, no-kind}
 use Rattle.text.specs.declared.Surrogate.{Surrogate}
-use mathlib.Core.List.{_∷_}
+use Rattle.text.specs.declared.Surrogate.the-variants.{Plain, High, Low}
+use Rattle.text.proofs.Surrogate.{the-type}
+use denote.Enum.Declared.{tagOf}
+use types.Run.{OneOf}
+use mathlib.Core.Logic.{inl, inr}
+use mathlib.Core.List.{List, [], _∷_}
 use Rattle.text.specs.Surrogates.{anyHigh, surrogates, hasPair}
 use Prim.Native.Nat.{_+_, _-_, _≤_}
-use mathlib.Core.Path.{_≡_, refl}
+use mathlib.Core.Path.{_≡_, refl, sym, _∙_}
 use lib.ListN.{length, drop}
 use native.Mathlib.Omega.{arith}
 use borrow.Author.Needs.{needs}
@@ -18,6 +23,14 @@ Inv-loop s at₀ at = (at ≤ length s) × (anyHigh (surrogates (drop at s)) ≡
 
 abbrev μ-loop : tie.MeasureT-loop
 μ-loop s at₀ at = length s - at
+
+-- a unit that is no high surrogate
+not-high : (v : Surrogate) (ks : List Surrogate) → OneOf (0 ∷ 2 ∷ []) (tagOf the-type v) → anyHigh (v ∷ ks) ≡ anyHigh ks
+unfolding anyHigh
+not-high Plain ks k = refl
+not-high High ks (inl e) = absurd (omega (arith, e))
+not-high High ks (inr e) = absurd (omega (arith, e))
+not-high Low ks k = refl
 
 -- the unit at the place is of a kind v
 turn : (c : tie.After-surrogate-of Inv-loop μ-loop) {v : Surrogate} → c .surrogate-of .result ≡ v
@@ -49,25 +62,11 @@ returns : tie.Need-returns Inv-loop μ-loop
 unfolding anyHigh
 returns c = turn (c .before .before) (c .enum-told .given .1)
 
-enum-told-2 : tie.Need-enum-told-2 Inv-loop μ-loop
-enum-told-2 c = search needs
-
 loop-less : tie.Need-loop-less Inv-loop μ-loop
 loop-less c = search needs
 
 loop-again : tie.Need-loop-again Inv-loop μ-loop
-unfolding anyHigh
-loop-again c = (search needs, turn (c .before .before) (c .enum-told2 .given .1))
-
-enum-told-3 : tie.Need-enum-told-3 Inv-loop μ-loop
-enum-told-3 c = search needs
-
-loop-less-2 : tie.Need-loop-less-2 Inv-loop μ-loop
-loop-less-2 c = search needs
-
-loop-again-2 : tie.Need-loop-again-2 Inv-loop μ-loop
-unfolding anyHigh
-loop-again-2 c = (search needs, turn (c .before .before) (c .enum-told3 .given .1))
+loop-again c = (search needs, sym (not-high _ _ (c .match .keys2)) ∙ turn (c .before) refl)
 
 returns-2 : tie.Need-returns-2 Inv-loop μ-loop
 unfolding anyHigh
@@ -88,10 +87,6 @@ has-pair-spec =
     surrogate-of-requires
     enum-told
     returns
-    enum-told-2
     loop-less
     loop-again
-    enum-told-3
-    loop-less-2
-    loop-again-2
     returns-2)

@@ -2,7 +2,7 @@
 -- the text; at most two are counted for a byte, so the sum fits. Assumes nothing.
 use Rattle.text.specs.Units.{unitsOf, total}
 use Rattle.text.proofs.Scan.{summed, summed-all}
-use Rattle.text.specs.Surrogates.{countIn}
+use Rattle.text.specs.Inner.{countIn}
 use Prim.Native.Nat.{_+_, _-_, _*_, _≤_}
 use mathlib.Core.Path.{_≡_}
 use lib.ListN.{length, drop}

@@ -3,11 +3,13 @@ use Rattle.wire.proofs.Over.{then, ended}
 use Rattle.wire.specs.Fields.{flat}
 use Rattle.token.proofs.Puts.{wrote-low}
 use denote.Ref.{now}
-use lib.ListN.{length}
-use Prim.Native.Nat.{_/_}
+use Rattle.text.specs.Units.{units}
 use borrow.Author.Needs.{needs}
 use Rattle.token.proofs.put_b_varchar.Statement.{statement}
 use Rattle.token.proofs.put_b_varchar.Tie as tie
+
+units-requires : tie.Need-units-requires
+units-requires c κs = search needs
 
 cast-put-u8 : tie.Need-cast-put-u8
 cast-put-u8 c = search needs
@@ -23,8 +25,10 @@ same-length c = search needs
 
 returns : tie.Need-returns
 unfolding flat
-returns c = let a = c .before .before .before .before .before .before .before .before .before .before .args in then (wrote-low 1 (length (now (a .text)) / 2) (c .before .before .before .before .before .before .put-u8 .ensures)) (then (c .before .before .put-slice .ensures) (ended (c .before .before .put-slice .ensures)))
+returns c = let text = now (c .before .before .before .before .before .before .before .before .before .before .before .args .text) in
+    let count = rw (c .before .before .before .before .before .before .before .units .ensures) at (c .before .before .before .before .before .before .put-u8 .ensures) in
+    then (wrote-low 1 (units text) count) (then (c .before .before .put-slice .ensures) (ended (c .before .before .put-slice .ensures)))
 
 pub put-b-varchar-spec : {M : Type 1} → statement M
 put-b-varchar-spec =
-    tie.close (tie.spec cast-put-u8 put-u8-requires put-slice-requires same-length returns)
+    tie.close (tie.spec units-requires cast-put-u8 put-u8-requires put-slice-requires same-length returns)

@@ -1,7 +1,7 @@
 -- `token::put_colmetadata` meets its contract. Assumes nothing.
 use Rattle.wire.proofs.Over.{then, ended}
 use Rattle.wire.specs.Fields.{flat}
-use Rattle.token.specs.Tokens.{bytesOf}
+use Rattle.token.specs.Tokens.{tokenBytes}
 use Rattle.token.proofs.Puts.{wrote-low}
 use borrow.Author.Needs.{needs}
 use Rattle.token.proofs.put_colmetadata.Statement.{statement}
@@ -20,7 +20,7 @@ same-length : tie.Need-same-length
 same-length c = search needs
 
 returns : tie.Need-returns
-unfolding bytesOf flat
+unfolding tokenBytes flat
 returns c = let a = c .before .before .before .before .before .before .before .before .before .args in then (c .before .before .before .before .before .before .put-u8 .ensures) (then (wrote-low 2 (a .count) (c .before .before .put-u16-le .ensures)) (ended (wrote-low 2 (a .count) (c .before .before .put-u16-le .ensures))))
 
 pub put-colmetadata-spec : {M : Type 1} → statement M

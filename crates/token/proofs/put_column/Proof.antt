@@ -7,7 +7,7 @@ use Rattle.wire.proofs.Over.{then, ended}
 use mathlib.Core.List.{[], _∷_}
 use denote.Ref.{now}
 use Rattle.wire.proofs.Fields.{then-fields}
-use Rattle.token.specs.Tokens.{bytesOf, nameCount, typeFields}
+use Rattle.token.specs.Tokens.{tokenBytes, nameCount, typeFields}
 use Rattle.token.specs.Types.{typeCode, typeLength}
 use Rattle.token.proofs.Puts.{wrote-low}
 use Rattle.text.specs.Surrogates.{characters}
@@ -37,7 +37,7 @@ same-length : tie.Need-same-length
 same-length c = search needs
 
 returns : tie.Need-returns
-unfolding bytesOf flat nameCount
+unfolding tokenBytes flat nameCount
 returns c = let a = c .before .before .before .before .before .before .before .before .before .before .before .before .before .before .before .before .before .before .before .before .args in
     let name = now (a .name) in
     let count = characters name in

@@ -1,7 +1,7 @@
 -- `token::put_done` meets its contract. Assumes nothing.
 use Rattle.wire.proofs.Over.{then, ended}
 use Rattle.wire.specs.Fields.{flat}
-use Rattle.token.specs.Tokens.{bytesOf}
+use Rattle.token.specs.Tokens.{tokenBytes}
 use borrow.Author.Needs.{needs}
 use Rattle.token.proofs.put_done.Statement.{statement}
 use Rattle.token.proofs.put_done.Tie as tie
@@ -22,7 +22,7 @@ same-length : tie.Need-same-length
 same-length c = search needs
 
 returns : tie.Need-returns
-unfolding bytesOf flat
+unfolding tokenBytes flat
 returns c = then (c .before .before .before .before .before .before .before .before .before .before .before .before .before .before .put-u8 .ensures) (then (c .before .before .before .before .before .before .before .before .before .before .put-u16-le .ensures) (then (c .before .before .before .before .before .before .put-u16-le2 .ensures) (then (c .before .before .put-u64-le .ensures) (ended (c .before .before .put-u64-le .ensures)))))
 
 pub put-done-spec : {M : Type 1} → statement M

@@ -5,7 +5,7 @@ use Rattle.wire.proofs.Over.{then, ended, wrote-as}
 use mathlib.Core.List.{[], _∷_}
 use denote.Ref.{now}
 use Rattle.wire.proofs.Fields.{then-fields}
-use Rattle.token.specs.Tokens.{bytesOf, messageLength, messageHead, usVarchar, bVarchar}
+use Rattle.token.specs.Tokens.{tokenBytes, messageLength, messageHead, usVarchar, bVarchar}
 use Rattle.token.proofs.Puts.{head-size}
 use borrow.Author.Needs.{needs}
 use Rattle.token.proofs.put_message.Statement.{statement}
@@ -33,7 +33,7 @@ same-length : tie.Need-same-length
 same-length c = search needs
 
 returns : tie.Need-returns
-unfolding bytesOf flat
+unfolding tokenBytes flat
 returns c = let a = c .before .before .before .before .before .before .before .before .before .before .before .before .before .before .before .before .before .before .before .before .before .before .before .before .before .args in
     let t = now (a .text) in
     let v = now (a .server) in

@@ -1,7 +1,7 @@
 -- `token::put_nvarchar` meets its contract. Assumes nothing.
 use Rattle.wire.proofs.Over.{then, ended}
 use Rattle.wire.specs.Fields.{flat}
-use Rattle.token.specs.Tokens.{bytesOf}
+use Rattle.token.specs.Tokens.{tokenBytes}
 use Rattle.token.proofs.Puts.{wrote-low}
 use denote.Ref.{now}
 use lib.ListN.{length}
@@ -22,7 +22,7 @@ same-length : tie.Need-same-length
 same-length c = search needs
 
 returns : tie.Need-returns
-unfolding bytesOf flat
+unfolding tokenBytes flat
 returns c = let a = c .before .before .before .before .before .before .before .before .before .before .args in then (wrote-low 2 (length (now (a .text))) (c .before .before .before .before .before .before .put-u16-le .ensures)) (then (c .before .before .put-slice .ensures) (ended (c .before .before .put-slice .ensures)))
 
 pub put-nvarchar-spec : {M : Type 1} → statement M

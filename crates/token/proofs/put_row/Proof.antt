@@ -1,7 +1,7 @@
 -- `token::put_row` meets its contract. Assumes nothing.
 use Rattle.wire.proofs.Over.{then, ended}
 use Rattle.wire.specs.Fields.{flat}
-use Rattle.token.specs.Tokens.{bytesOf}
+use Rattle.token.specs.Tokens.{tokenBytes}
 use borrow.Author.Needs.{needs}
 use Rattle.token.proofs.put_row.Statement.{statement}
 use Rattle.token.proofs.put_row.Tie as tie
@@ -13,7 +13,7 @@ same-length : tie.Need-same-length
 same-length c = search needs
 
 returns : tie.Need-returns
-unfolding bytesOf flat
+unfolding tokenBytes flat
 returns c = then (c .before .before .put-u8 .ensures) (ended (c .before .before .put-u8 .ensures))
 
 pub put-row-spec : {M : Type 1} → statement M

@@ -4,7 +4,7 @@ use Rattle.wire.proofs.Parts.{part-past, part-rest, rest-is}
 use native.Mathlib.Nat.{add-sub-cancel-left}
 use mathlib.Core.Path.{sym, _∙_}
 use native.Mathlib.Omega.{arith}
-use Rattle.wire.specs.Part.{bytesOf}
+use Rattle.wire.specs.Part.{partBytes}
 use borrow.Author.Needs.{needs}
 use Rattle.wire.proofs.part_of.Statement.{statement}
 use Rattle.wire.proofs.part_of.Tie as tie
@@ -44,7 +44,7 @@ part-result-end-2 : tie.Need-part-result-end-2
 part-result-end-2 c = search needs
 
 returns-3 : tie.Need-returns-3
-unfolding bytesOf
+unfolding partBytes
 returns-3 c = rw (add-sub-cancel-left)
 
 pub part-of-spec : {M : Type 1} → statement M

@@ -147,7 +147,7 @@ impl Requests {
         }
     }
 
-    /// 30,000 blanks alone, before, after and around a letter; an odd byte behind them.
+    /// 30,000 blanks alone, before, after and around a letter; an odd byte after them.
     fn long_batches(&mut self) {
         let blanks = [0x20, 0x00].repeat(30_000);
         for around in [&[][..], b"A\0", &[0x3D, 0xD8], &[0x3D, 0xD8, 0x00, 0xDE]] {

@@ -243,7 +243,7 @@ fn pairs_of_texts(size: Size) -> Vec<Check> {
     vec![challenge, token]
 }
 
-/// In a packet behind its acknowledgement, and by itself.
+/// In a packet after its acknowledgement, and by itself.
 pub fn fedauth_infos([challenge, token]: [&mut Check; 2], url: &[u8], spn: &[u8]) {
     let input = || format!("url {} spn {}", hex(url), hex(spn));
     let arguments = argument(url).and_then(|url| Ok((url, argument(spn)?)));

@@ -115,7 +115,7 @@ impl Results {
         self.fit.slots(|| hex(script), &answer, SLOTS, |out| station_fit(script, out));
     }
 
-    /// Sequences of up to `most` records of every sort behind a set, and behind no set.
+    /// Sequences of up to `most` records of every sort after a set, and after none.
     fn every_order(&mut self, most: usize) {
         let sorts = sorts_of_records();
         self.script(&[]);
@@ -257,7 +257,7 @@ impl Results {
         }
     }
 
-    /// Names of 254 to 257 units, in letters and in pairs, with an empty chunk before or behind,
+    /// Names of 254 to 257 units, in letters and in pairs, with an empty chunk before or after,
     /// in the first set, a later one, and where a terminal error drops them.
     fn names_and_chunks(&mut self) {
         let empty = [row(), cell(9, &[]), chunk(&[1]), chunk(&[])];
@@ -350,7 +350,7 @@ impl Results {
         }
     }
 
-    /// Classification bytes in one of three sets, with columns, infos and rows behind them.
+    /// Classification bytes in one of three sets, with columns, infos and rows after them.
     fn classification(&mut self) {
         let body = [column(1, COLLATION, &[]), info(INFO, &[], &[], &[]), row(), cell(1, &[9])];
         for bytes in [&[][..], &[0], &[0xA3, 1, 0, 0xFD], &[0xFD; 40]] {
@@ -383,7 +383,7 @@ impl Results {
     }
 
     /// Replies of 65,530 to 65,540 bytes, the last bytes coming from each record that has bytes
-    /// to give, in a bare script and behind sets of every kind.
+    /// to give, in a bare script and after sets of every kind.
     fn result_lengths(&mut self, random: &mut Random) {
         let shape = Shape { fits: true, ..WIDE };
         let wide =
@@ -498,7 +498,7 @@ fn sorts_of_records() -> Vec<Record> {
     ]
 }
 
-/// The record where it may stand: behind what must be before it.
+/// The record where it may stand: after what must be before it.
 fn in_order(record: Record) -> Vec<Record> {
     let before = match record.kind {
         SET => vec![],

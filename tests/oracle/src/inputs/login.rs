@@ -41,7 +41,7 @@ pub fn token_data(told: u32, token: &[u8]) -> Vec<u8> {
     [&[0x02], &told.to_le_bytes()[..], token].concat()
 }
 
-/// A login with the two texts and the features, and `tail` behind them.
+/// A login with the two texts and the features, and `tail` after them.
 pub fn login(server: &[u8], database: &[u8], features: &[Feature], tail: &[u8]) -> Vec<u8> {
     let mut body = vec![0; FIXED];
     body[OPTION_FLAGS_3] = HAS_FEATURES;

@@ -25,7 +25,7 @@ fn blanks(random: &mut Random, count: usize) -> Vec<u16> {
     (0..count).map(|_| random.pick(&utf16::BLANK_UNITS)).collect()
 }
 
-/// Headers and a request type, with or without bytes behind it; often damaged.
+/// Headers and a request type, with or without bytes after it; often damaged.
 pub fn random_transaction(random: &mut Random) -> Vec<u8> {
     let mut body = random_headers(random);
     let count = random.within(0, 6);
@@ -33,7 +33,7 @@ pub fn random_transaction(random: &mut Random) -> Vec<u8> {
     maybe_damaged(random, body)
 }
 
-/// A block of headers and bytes behind it; often damaged.
+/// A block of headers and bytes after it; often damaged.
 pub fn random_descriptor(random: &mut Random) -> Vec<u8> {
     let mut body = random_headers(random);
     let count = random.within(0, 8);

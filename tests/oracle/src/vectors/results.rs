@@ -98,7 +98,7 @@ fn orders() -> Vec<Vec<Record>> {
     let empty = [row(), cell(9, &[]), chunk(&[])];
     let long = column(1, COLLATION, &b"n\0".repeat(256));
     let int = cell(3, &[0xFF; 4]);
-    let behind_a_set = [
+    let after_a_set = [
         vec![row(), int.clone(), chunk(&[1, 2])],
         vec![row(), cell(9, &[]), row(), chunk(&[1, 2])],
         vec![int],
@@ -117,7 +117,7 @@ fn orders() -> Vec<Vec<Record>> {
         vec![info(TRAILING, b"m\0", b"s\0", b"p\0")],
         vec![row(), cell(10, &[])],
     ];
-    behind_a_set.iter().map(|records| [&[set(&[])], &records[..]].concat()).collect()
+    after_a_set.iter().map(|records| [&[set(&[])], &records[..]].concat()).collect()
 }
 
 fn texts() -> Vec<Vec<Record>> {

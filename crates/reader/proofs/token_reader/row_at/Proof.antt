@@ -3,9 +3,9 @@ use mathlib.Core.Path.{sym, ap}
 use native.Mathlib.Omega.{arith}
 use borrow.Author.Tests.{le-ltb, lt-ltb}
 use Prim.Native.Nat.{_≤_, _<_}
-use Rattle.reader.proofs.CodeReads.{must-hold, must-not}
+use Rattle.payload.proofs.CodeReads.{must-hold, must-not}
 use Rattle.reader.specs.Code.{tokenRead}
-use Rattle.reader.specs.Tokens.{rowAt}
+use Rattle.reader.specs.ReadTokens.{rowAt}
 use Rattle.reader.proofs.token_reader.row_at.Statement.{statement}
 use Rattle.reader.proofs.token_reader.row_at.Tie as tie
 

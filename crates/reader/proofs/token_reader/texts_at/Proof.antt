@@ -1,8 +1,9 @@
 -- `reader::token_reader::texts_at` meets its contract. Assumes nothing.
 use mathlib.Core.Path.{sym, ap, _∙_}
 use native.Mathlib.Omega.{arith}
-use Rattle.reader.proofs.CodeReads.{number-got, number-not, then-got, then-not, below, part-is, part-is-not}
-use Rattle.reader.specs.Code.{textsRead, textsAt}
+use Rattle.payload.proofs.CodeReads.{number-got, number-not, then-got, then-not, below, part-is, part-is-not}
+use Rattle.reader.specs.Code.{textsRead}
+use Rattle.reader.specs.ReadTokens.{textsAt}
 use borrow.Author.Needs.{needs}
 use Rattle.reader.proofs.token_reader.texts_at.Statement.{statement}
 use Rattle.reader.proofs.token_reader.texts_at.Tie as tie
@@ -52,8 +53,8 @@ returns-3 c = sym (ap textsRead (then-got _ (part-is _ (c .before .before .befor
 enum-known-t-3 : tie.Need-enum-known-t-3
 enum-known-t-3 c = search needs
 
-number-at-requires : tie.Need-number-at-requires
-number-at-requires c κs = search needs
+u32-at-requires : tie.Need-u32-at-requires
+u32-at-requires c κs = search needs
 
 enum-known-n-4 : tie.Need-enum-known-n-4
 enum-known-n-4 c = search needs
@@ -62,15 +63,15 @@ enum-known-line : tie.Need-enum-known-line
 enum-known-line c = search needs
 
 cast-t28 : tie.Need-cast-t28
-cast-t28 c = omega (arith, below 4 (c .before .before .before .before .number-at .ensures .1) (c .before .before .line .given .1))
+cast-t28 c = omega (arith, below 4 (c .before .before .before .before .u32-at .ensures .1) (c .before .before .line .given .1))
 
 returns-4 : tie.Need-returns-4
 unfolding textsAt
-returns-4 c = sym (ap textsRead (then-got _ (part-is _ (c .before .before .before .before .before .before .before .before .before .before .before .before .before .before .before .before .before .before .before .before .text-at .ensures) (c .before .before .before .before .before .before .before .before .before .before .before .before .before .before .before .before .before .before .t .given .1)) ∙ then-got _ (part-is _ (rw (c .before .before .before .before .before .before .before .before .before .before .before .before .before .before .before .minus .ensures) at (c .before .before .before .before .before .before .before .before .before .before .before .before .before .before .text-at2 .ensures)) (c .before .before .before .before .before .before .before .before .before .before .before .before .t2 .given .1)) ∙ then-got _ (part-is _ (rw (c .before .before .before .before .before .before .before .before .before .minus2 .ensures, c .before .before .before .before .before .before .before .before .before .before .before .before .before .before .before .minus .ensures) at (c .before .before .before .before .before .before .before .before .text-at3 .ensures)) (c .before .before .before .before .before .before .t3 .given .1)) ∙ number-not _ _ _ _ (c .before .before .before .number-at .ensures .0) (c .before .n4 .given .1)))
+returns-4 c = sym (ap textsRead (then-got _ (part-is _ (c .before .before .before .before .before .before .before .before .before .before .before .before .before .before .before .before .before .before .before .before .text-at .ensures) (c .before .before .before .before .before .before .before .before .before .before .before .before .before .before .before .before .before .before .t .given .1)) ∙ then-got _ (part-is _ (rw (c .before .before .before .before .before .before .before .before .before .before .before .before .before .before .before .minus .ensures) at (c .before .before .before .before .before .before .before .before .before .before .before .before .before .before .text-at2 .ensures)) (c .before .before .before .before .before .before .before .before .before .before .before .before .t2 .given .1)) ∙ then-got _ (part-is _ (rw (c .before .before .before .before .before .before .before .before .before .minus2 .ensures, c .before .before .before .before .before .before .before .before .before .before .before .before .before .before .before .minus .ensures) at (c .before .before .before .before .before .before .before .before .text-at3 .ensures)) (c .before .before .before .before .before .before .t3 .given .1)) ∙ number-not _ _ _ _ (c .before .before .before .u32-at .ensures .0) (c .before .n4 .given .1)))
 
 returns-5 : tie.Need-returns-5
 unfolding textsAt
-returns-5 c = sym (ap textsRead (then-got _ (part-is _ (c .before .before .before .before .before .before .before .before .before .before .before .before .before .before .before .before .before .before .before .before .before .text-at .ensures) (c .before .before .before .before .before .before .before .before .before .before .before .before .before .before .before .before .before .before .before .t .given .1)) ∙ then-got _ (part-is _ (rw (c .before .before .before .before .before .before .before .before .before .before .before .before .before .before .before .before .minus .ensures) at (c .before .before .before .before .before .before .before .before .before .before .before .before .before .before .before .text-at2 .ensures)) (c .before .before .before .before .before .before .before .before .before .before .before .before .before .t2 .given .1)) ∙ then-got _ (part-is _ (rw (c .before .before .before .before .before .before .before .before .before .before .minus2 .ensures, c .before .before .before .before .before .before .before .before .before .before .before .before .before .before .before .before .minus .ensures) at (c .before .before .before .before .before .before .before .before .before .text-at3 .ensures)) (c .before .before .before .before .before .before .before .t3 .given .1)) ∙ number-got _ _ _ _ (c .before .before .before .before .number-at .ensures .0) (c .before .before .line .given .1)))
+returns-5 c = sym (ap textsRead (then-got _ (part-is _ (c .before .before .before .before .before .before .before .before .before .before .before .before .before .before .before .before .before .before .before .before .before .text-at .ensures) (c .before .before .before .before .before .before .before .before .before .before .before .before .before .before .before .before .before .before .before .t .given .1)) ∙ then-got _ (part-is _ (rw (c .before .before .before .before .before .before .before .before .before .before .before .before .before .before .before .before .minus .ensures) at (c .before .before .before .before .before .before .before .before .before .before .before .before .before .before .before .text-at2 .ensures)) (c .before .before .before .before .before .before .before .before .before .before .before .before .before .t2 .given .1)) ∙ then-got _ (part-is _ (rw (c .before .before .before .before .before .before .before .before .before .before .minus2 .ensures, c .before .before .before .before .before .before .before .before .before .before .before .before .before .before .before .before .minus .ensures) at (c .before .before .before .before .before .before .before .before .before .text-at3 .ensures)) (c .before .before .before .before .before .before .before .t3 .given .1)) ∙ number-got _ _ _ _ (c .before .before .before .before .u32-at .ensures .0) (c .before .before .line .given .1)))
 
 pub texts-at-spec : {M : Type 1} → statement M
 texts-at-spec =
@@ -90,7 +91,7 @@ texts-at-spec =
     enum-known-n-3
     returns-3
     enum-known-t-3
-    number-at-requires
+    u32-at-requires
     enum-known-n-4
     enum-known-line
     cast-t28

@@ -21,8 +21,8 @@ piece-requires c κs = search needs
 put-run-requires : tie.Need-put-run-requires Inv-loop μ-loop
 put-run-requires c κs = search needs
 
-behind-requires : tie.Need-behind-requires Inv-loop μ-loop
-behind-requires c κs = search needs
+past-requires : tie.Need-past-requires Inv-loop μ-loop
+past-requires c κs = search needs
 
 sub-left : tie.Need-sub-left Inv-loop μ-loop
 sub-left c = search needs
@@ -48,7 +48,7 @@ bytes-spec =
     loop-holds
     piece-requires
     put-run-requires
-    behind-requires
+    past-requires
     sub-left
     loop-less
     loop-again

@@ -9,19 +9,28 @@ use Rattle.response.proofs.faults.fedauth_info_size.Tie as tie
 capped-requires : tie.Need-capped-requires
 capped-requires c κs = search needs
 
-add-result : tie.Need-add-result
-add-result c = search needs
+add-capped : tie.Need-add-capped
+add-capped c = search needs
 
 capped-requires-2 : tie.Need-capped-requires-2
 capped-requires-2 c κs = search needs
 
-add-result-2 : tie.Need-add-result-2
-add-result-2 c = search needs
+add-capped-2 : tie.Need-add-capped-2
+add-capped-2 c = search needs
+
+capped-requires-3 : tie.Need-capped-requires-3
+capped-requires-3 c κs = search needs
 
 returns : tie.Need-returns
-returns c = let a = c .before .before .before .before .args in
-    let long = info-size (now (a .sts-url)) (now (a .spn)) in (omega (arith, long), omega arith)
+returns c = let a = c .before .before .before .before .before .args in omega (arith, info-size (now (a .sts-url)) (now (a .spn)))
 
 pub fedauth-info-size-spec : {M : Type 1} → statement M
 fedauth-info-size-spec =
-    tie.close (tie.spec capped-requires add-result capped-requires-2 add-result-2 returns)
+    tie.close
+    (tie.spec
+    capped-requires
+    add-capped
+    capped-requires-2
+    add-capped-2
+    capped-requires-3
+    returns)

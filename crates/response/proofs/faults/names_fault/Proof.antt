@@ -1,21 +1,21 @@
 -- `response::faults::names_fault` meets its contract. Assumes nothing.
-use borrow.Author.Tests.{lt-ltb, le-ltb}
-use Rattle.response.specs.Answer.{firstOf}
-use Rattle.response.specs.Arguments.{nameFault}
+use Rattle.response.proofs.Firsts.{found, passed, last}
+use mathlib.Core.Path.{sym, _∙_}
+use borrow.Author.Needs.{needs}
 use Rattle.response.proofs.faults.names_fault.Statement.{statement}
 use Rattle.response.proofs.faults.names_fault.Tie as tie
 
+name-fault-requires : tie.Need-name-fault-requires
+name-fault-requires c κs = search needs
+
 returns : tie.Need-returns
-unfolding firstOf nameFault
-returns c = simp (lt-ltb _ _ (c .if1 .taken))
+returns c = found _ (c .before .name-fault .ensures) (c .if1 .taken)
+
+name-fault-requires-2 : tie.Need-name-fault-requires-2
+name-fault-requires-2 c κs = search needs
 
 returns-2 : tie.Need-returns-2
-unfolding firstOf nameFault
-returns-2 c = simp (le-ltb _ _ (c .before .if1 .left), lt-ltb _ _ (c .if2 .taken))
-
-returns-3 : tie.Need-returns-3
-unfolding firstOf nameFault
-returns-3 c = simp (le-ltb _ _ (c .before .if1 .left), le-ltb _ _ (c .if2 .left))
+returns-2 c = c .name-fault2 .ensures ∙ sym (passed _ (c .before .before .name-fault .ensures) (c .before .if1 .left) ∙ last _)
 
 pub names-fault-spec : {M : Type 1} → statement M
-names-fault-spec = tie.close (tie.spec returns returns-2 returns-3)
+names-fault-spec = tie.close (tie.spec name-fault-requires returns name-fault-requires-2 returns-2)

@@ -2,8 +2,8 @@
 use Rattle.response.proofs.Writing.{routed, counted-low}
 use native.Mathlib.Omega.{arith}
 use denote.Ref.{now}
-use lib.ListN.{length}
-use Prim.Native.Nat.{_/_}
+use Rattle.text.specs.Units.{units}
+use Rattle.text.proofs.Scan.{units-half}
 use mathlib.Core.List.{[]}
 use Rattle.wire.proofs.Fields.{then-fields}
 use Rattle.response.proofs.Lengths.{database-target-size}
@@ -47,7 +47,7 @@ returns c = let x = c .before .before in
     let host = now (a .host) in
     let database = now (a .database) in
     let long = database-target-size host (a .port) database in
-    let value = then-fields (target host (a .port) []) (usVarchar database []) (v .put-target .ensures) (counted-low (length database / 2) database (u .put-text .ensures)) in
+    let value = then-fields (target host (a .port) []) (usVarchar database []) (v .put-target .ensures) (counted-low (units database) database (rw (← units-half database) at (u .put-text .ensures))) in
     routed 21 _ (target host (a .port) (usVarchar database [])) (omega (arith, long)) (w .put-routing-head .ensures) value (x .put-u16-le .ensures)
 
 pub put-database-route-spec : {M : Type 1} → statement M

@@ -27,8 +27,8 @@ cast-put-u32-le c = search needs
 put-u32-le-requires : tie.Need-put-u32-le-requires
 put-u32-le-requires c κs = search needs
 
-behind-requires : tie.Need-behind-requires
-behind-requires c κs = search needs
+rest-after-requires : tie.Need-rest-after-requires
+rest-after-requires c κs = search needs
 
 put-slice-requires : tie.Need-put-slice-requires
 put-slice-requires c κs = search needs
@@ -45,7 +45,7 @@ returns c = let v = c .before .before in
     let p = now (start .args .p) in
     let size : (u .before .left .result) % 256 ^ 4 ≡ length (drop 1 p) % 256 ^ 4 = omega (arith, length-drop 1 p) in
     then (rw (w .before .get-u8 .ensures) at (w .put-u8 .ensures))
-    (then (low 4 _ (length (drop 1 p)) size (wrote-as (u .put-u32-le .ensures) (le-mod 4 _))) (alone (rw (v .before .behind .ensures) at (v .put-slice .ensures))))
+    (then (low 4 _ (length (drop 1 p)) size (wrote-as (u .put-u32-le .ensures) (le-mod 4 _))) (alone (rw (v .before .rest-after .ensures) at (v .put-slice .ensures))))
 
 pub put-feature-spec : {M : Type 1} → statement M
 put-feature-spec =
@@ -56,7 +56,7 @@ put-feature-spec =
     left-requires
     cast-put-u32-le
     put-u32-le-requires
-    behind-requires
+    rest-after-requires
     put-slice-requires
     same-length
     returns)

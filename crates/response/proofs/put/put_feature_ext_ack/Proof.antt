@@ -10,11 +10,8 @@ use Rattle.response.proofs.put.put_feature_ext_ack.Tie as tie
 put-u8-requires : tie.Need-put-u8-requires
 put-u8-requires c κs = search needs
 
-slice-aggregate-put-list : tie.Need-slice-aggregate-put-list
-slice-aggregate-put-list c = search needs
-
-put-list-requires : tie.Need-put-list-requires
-put-list-requires c κs = search needs
+put-features-requires : tie.Need-put-features-requires
+put-features-requires c κs = search needs
 
 put-u8-requires-2 : tie.Need-put-u8-requires-2
 put-u8-requires-2 c κs = search needs
@@ -26,15 +23,14 @@ returns : tie.Need-returns
 unfolding featureExtAck flat
 returns c = let v = c .before .before in
     let u = v .before .before .before .before in
-    let w = u .before .before .before .before .before in then (w .put-u8 .ensures) (then (u .put-list .ensures) (alone (v .put-u82 .ensures)))
+    let w = u .before .before .before .before in then (w .put-u8 .ensures) (then (u .put-features .ensures) (alone (v .put-u82 .ensures)))
 
 pub put-feature-ext-ack-spec : {M : Type 1} → statement M
 put-feature-ext-ack-spec =
     tie.close
     (tie.spec
     put-u8-requires
-    slice-aggregate-put-list
-    put-list-requires
+    put-features-requires
     put-u8-requires-2
     same-length
     returns)

@@ -13,8 +13,8 @@ use borrow.Author.Needs.{needs}
 use Rattle.response.proofs.put.put_info_head.Statement.{statement}
 use Rattle.response.proofs.put.put_info_head.Tie as tie
 
-add-behind-url : tie.Need-add-behind-url
-add-behind-url c = search needs
+add-after-url : tie.Need-add-after-url
+add-after-url c = search needs
 
 add-size : tie.Need-add-size
 add-size c = search needs
@@ -60,7 +60,7 @@ pub put-info-head-spec : {M : Type 1} → statement M
 put-info-head-spec =
     tie.close
     (tie.spec
-    add-behind-url
+    add-after-url
     add-size
     put-u8-requires
     cast-put-u32-le

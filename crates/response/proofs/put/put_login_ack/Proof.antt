@@ -2,6 +2,7 @@
 use Rattle.wire.specs.Le.{le}
 use Rattle.wire.specs.Be.{be}
 use Rattle.wire.specs.Fields.{flat}
+use Rattle.text.specs.Units.{unitsOf, units}
 use Rattle.response.specs.Login.{loginAck, wide}
 use Rattle.response.proofs.Writing.{nothing}
 use borrow.Author.Needs.{needs}
@@ -18,7 +19,7 @@ same-length : tie.Need-same-length
 same-length c = search needs
 
 returns : tie.Need-returns
-unfolding loginAck wide le be flat
+unfolding loginAck wide le be flat unitsOf units
 returns c = let t = c .before .before in rw (t .before .before .before .if1 .taken) (t .put-slice .ensures)
 
 put-nothing-requires : tie.Need-put-nothing-requires

@@ -11,8 +11,8 @@ put-login-ack-requires c κs = search needs
 put-routing-ack-requires : tie.Need-put-routing-ack-requires
 put-routing-ack-requires c κs = search needs
 
-put-list-requires : tie.Need-put-list-requires
-put-list-requires c κs = search needs
+put-routes-requires : tie.Need-put-routes-requires
+put-routes-requires c κs = search needs
 
 put-routing-ack-requires-2 : tie.Need-put-routing-ack-requires-2
 put-routing-ack-requires-2 c κs = search needs
@@ -30,7 +30,7 @@ returns c = let z = c .before .before in
     let v = x .before .before .before .before in
     let u = v .before .before .before .before in
     let w = u .before .before .before .before in
-    then (then (then (then (w .put-login-ack .ensures) (u .put-routing-ack .ensures)) (v .put-list .ensures)) (x .put-routing-ack2 .ensures)) (z .put-done .ensures)
+    then (then (then (then (w .put-login-ack .ensures) (u .put-routing-ack .ensures)) (v .put-routes .ensures)) (x .put-routing-ack2 .ensures)) (z .put-done .ensures)
 
 pub put-routing-tokens-spec : {M : Type 1} → statement M
 put-routing-tokens-spec =
@@ -38,7 +38,7 @@ put-routing-tokens-spec =
     (tie.spec
     put-login-ack-requires
     put-routing-ack-requires
-    put-list-requires
+    put-routes-requires
     put-routing-ack-requires-2
     put-done-requires
     same-length

@@ -3,8 +3,8 @@ use Rattle.response.proofs.Writing.{counted-low}
 use Rattle.wire.proofs.Over.{then}
 use Rattle.wire.specs.Fields.{flat}
 use denote.Ref.{now}
-use lib.ListN.{length}
-use Prim.Native.Nat.{_/_}
+use Rattle.text.specs.Units.{units}
+use Rattle.text.proofs.Scan.{units-half}
 use borrow.Author.Needs.{needs}
 use Rattle.response.proofs.put.put_target.Statement.{statement}
 use Rattle.response.proofs.put.put_target.Tie as tie
@@ -31,7 +31,7 @@ returns c = let v = c .before .before in
     let w = u .before .before .before .before in
     let start = w .before .before .before .before in
     let host = now (start .args .host) in
-    then (w .put-u8 .ensures) (then (u .put-u16-le .ensures) (counted-low (length host / 2) host (v .put-text .ensures)))
+    then (w .put-u8 .ensures) (then (u .put-u16-le .ensures) (counted-low (units host) host (rw (← units-half host) at (v .put-text .ensures))))
 
 pub put-target-spec : {M : Type 1} → statement M
 put-target-spec =

@@ -4,6 +4,9 @@ use borrow.Author.Needs.{needs}
 use Rattle.station.proofs.build.station_build_routing_login_response.Statement.{statement}
 use Rattle.station.proofs.build.station_build_routing_login_response.Tie as tie
 
+acknowledgement-requires : tie.Need-acknowledgement-requires
+acknowledgement-requires c κs = search needs
+
 build-routing-login-response-requires : tie.Need-build-routing-login-response-requires
 build-routing-login-response-requires c κs = search needs
 
@@ -14,8 +17,15 @@ same-length : tie.Need-same-length
 same-length c = search needs
 
 returns : tie.Need-returns
-returns c = built _ _ (c .tell .ok) (c .before .before .before .build-routing-login-response .ensures) (c .tell .ensures)
+returns c = let b = c .before .before .before in
+    rw (← b .before .before .acknowledgement .ensures) (built _ _ (c .tell .ok) (b .build-routing-login-response .ensures) (c .tell .ensures))
 
 pub station-build-routing-login-response-spec : {M : Type 1} → statement M
 station-build-routing-login-response-spec =
-    tie.close (tie.spec build-routing-login-response-requires tell-requires same-length returns)
+    tie.close
+    (tie.spec
+    acknowledgement-requires
+    build-routing-login-response-requires
+    tell-requires
+    same-length
+    returns)

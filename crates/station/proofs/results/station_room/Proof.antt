@@ -1,7 +1,7 @@
 -- `station::results::station_room` meets its contract. Assumes nothing.
 use denote.Ref.{now}
 use native.Mathlib.Omega.{arith}
-use Rattle.station.proofs.Lengths.{room-short, room-told, room-denied}
+use Rattle.station.proofs.Lengths.{room-short, room-told, room-refused}
 use borrow.Author.Needs.{needs}
 use Rattle.station.proofs.results.station_room.Statement.{statement}
 use Rattle.station.proofs.results.station_room.Tie as tie
@@ -25,7 +25,7 @@ returns : tie.Need-returns
 returns c = room-told (now (c .before .before .before .before .before .args .script)) _ (rw (c .before .room .given .1) at (c .before .before .before .room-estimate .ensures))
 
 returns-2 : tie.Need-returns-2
-returns-2 c = room-denied (now (c .before .before .before .before .before .before .args .script)) _ (rw (c .before .before .number .given .1) at (c .before .before .before .before .room-estimate .ensures)) (c .refused .ok) (c .refused .ensures)
+returns-2 c = room-refused (now (c .before .before .before .before .before .before .args .script)) _ (rw (c .before .before .number .given .1) at (c .before .before .before .before .room-estimate .ensures)) (c .refused .ok) (c .refused .ensures)
 
 pub station-room-spec : {M : Type 1} → statement M
 station-room-spec =

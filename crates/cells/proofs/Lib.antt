@@ -1,0 +1,6 @@
+pub mod Types
+pub mod Chunks
+pub mod CodeReads
+pub mod CodeTypes
+pub mod CodeSigns
+pub mod CodeChunks

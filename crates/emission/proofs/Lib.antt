@@ -1,0 +1,8 @@
+pub mod BySets
+pub mod Sizes
+pub mod Stops
+pub mod Aheads
+pub mod Turns
+pub mod Values
+pub mod Walks
+pub mod Replies

@@ -1,0 +1,3 @@
+pub mod Standing
+pub mod CodeReads
+pub mod CodeNumbers

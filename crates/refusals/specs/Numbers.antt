@@ -1,0 +1,118 @@
+-- The numbers of refusals, each with its cause (document 01, 'Who causes which refusal'). Rests on nothing.
+use Prim.Native.Nat.{ℕ}
+
+-- ---- Client
+
+-- a batch is empty
+abbrev pub batchEmpty : ℕ
+batchEmpty = 1
+
+-- a batch has under 4 bytes
+abbrev pub batchTooShort : ℕ
+batchTooShort = 2
+
+-- the headers of a batch run past its end
+abbrev pub headersPastEnd : ℕ
+headersPastEnd = 3
+
+-- the text of a batch is not UTF-16
+abbrev pub batchNotUtf16 : ℕ
+batchNotUtf16 = 4
+
+-- a token message has under 8 bytes
+abbrev pub tokenTooShort : ℕ
+tokenTooShort = 5
+
+-- the outer length of a token message is wrong
+abbrev pub outerLength : ℕ
+outerLength = 6
+
+-- the inner length of a token message is wrong
+abbrev pub innerLength : ℕ
+innerLength = 7
+
+-- a packet header has under 8 bytes
+abbrev pub headerTooShort : ℕ
+headerTooShort = 8
+
+-- the type of a packet is unknown
+abbrev pub unknownPacketType : ℕ
+unknownPacketType = 9
+
+-- a transaction request has no type
+abbrev pub noTransactionType : ℕ
+noTransactionType = 10
+
+-- ---- Script's author
+
+-- a record is cut
+abbrev pub recordCut : ℕ
+recordCut = 11
+
+-- a kind is unknown or out of order, or a script has no set
+abbrev pub kindWrong : ℕ
+kindWrong = 12
+
+-- a payload has a wrong shape
+abbrev pub shapeWrong : ℕ
+shapeWrong = 13
+
+-- a text of a record is not UTF-16
+abbrev pub textWrong : ℕ
+textWrong = 14
+
+-- a chunk is empty
+abbrev pub emptyChunk : ℕ
+emptyChunk = 15
+
+-- a column, server or procedure name is over 255 units
+abbrev pub nameTooLong : ℕ
+nameTooLong = 16
+
+-- a result is over 65,535 bytes
+abbrev pub resultTooLong : ℕ
+resultTooLong = 17
+
+-- ---- Caller
+
+-- the input of a program is over 65,536 bytes
+abbrev pub inputTooLong : ℕ
+inputTooLong = 18
+
+-- a lent buffer is too short
+abbrev pub bufferTooShort : ℕ
+bufferTooShort = 20
+
+-- a text argument has an odd number of bytes
+abbrev pub oddText : ℕ
+oddText = 21
+
+-- a text argument is not UTF-16
+abbrev pub notUtf16 : ℕ
+notUtf16 = 22
+
+-- ---- Sender of a reply
+
+-- a packet is not of type 04, not ended, or of another length than its header says
+abbrev pub notReply : ℕ
+notReply = 23
+
+-- a reply is cut within a token or before the last DONE, or a position is one that document 01 refuses
+abbrev pub cutShort : ℕ
+cutShort = 24
+
+-- a byte begins no token
+abbrev pub unknownToken : ℕ
+unknownToken = 25
+
+-- an inner length or a type is wrong, or bytes follow the last DONE
+abbrev pub innerWrong : ℕ
+innerWrong = 26
+
+-- a set has over 128 columns
+abbrev pub tooManyColumns : ℕ
+tooManyColumns = 27
+
+-- a row stands in a set without columns
+abbrev pub rowWithoutColumns : ℕ
+rowWithoutColumns = 28

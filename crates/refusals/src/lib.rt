@@ -1,0 +1,93 @@
+// The numbers of refusals, each with its cause (document 01, 'Who causes which refusal'). No other crate has a number of its own.
+
+// No refusal, where a number is asked for.
+pub const NONE: u8 = 0;
+
+// ---- Client
+
+// A batch is empty.
+pub const BATCH_EMPTY: u8 = 1;
+
+// A batch has under 4 bytes.
+pub const BATCH_TOO_SHORT: u8 = 2;
+
+// The headers of a batch run past its end.
+pub const HEADERS_PAST_END: u8 = 3;
+
+// The text of a batch is not UTF-16.
+pub const BATCH_NOT_UTF16: u8 = 4;
+
+// A token message has under 8 bytes.
+pub const TOKEN_TOO_SHORT: u8 = 5;
+
+// The outer length of a token message is wrong.
+pub const OUTER_LENGTH: u8 = 6;
+
+// The inner length of a token message is wrong.
+pub const INNER_LENGTH: u8 = 7;
+
+// A packet header has under 8 bytes.
+pub const HEADER_TOO_SHORT: u8 = 8;
+
+// The type of a packet is unknown.
+pub const UNKNOWN_PACKET_TYPE: u8 = 9;
+
+// A transaction request has no type.
+pub const NO_TRANSACTION_TYPE: u8 = 10;
+
+// ---- Script's author
+
+// A record is cut.
+pub const RECORD_CUT: u8 = 11;
+
+// A kind is unknown or out of order, or a script has no set.
+pub const KIND_WRONG: u8 = 12;
+
+// A payload has a wrong shape.
+pub const SHAPE_WRONG: u8 = 13;
+
+// A text of a record is not UTF-16.
+pub const TEXT_WRONG: u8 = 14;
+
+// A chunk is empty.
+pub const EMPTY_CHUNK: u8 = 15;
+
+// A column, server or procedure name is over 255 units.
+pub const NAME_TOO_LONG: u8 = 16;
+
+// A result is over 65,535 bytes.
+pub const RESULT_TOO_LONG: u8 = 17;
+
+// ---- Caller
+
+// The input of a program is over 65,536 bytes.
+pub const INPUT_TOO_LONG: u8 = 18;
+
+// A lent buffer is too short.
+pub const BUFFER_TOO_SHORT: u8 = 20;
+
+// A text argument has an odd number of bytes.
+pub const ODD_TEXT: u8 = 21;
+
+// A text argument is not UTF-16.
+pub const NOT_UTF16: u8 = 22;
+
+// ---- Sender of a reply
+
+// A packet is not of type 04, not ended, or of another length than its header says.
+pub const NOT_A_REPLY: u8 = 23;
+
+// A reply is cut within a token or before the last DONE, or a position is one that document 01 refuses.
+pub const CUT: u8 = 24;
+
+// A byte begins no token.
+pub const UNKNOWN_TOKEN: u8 = 25;
+
+// An inner length or a type is wrong, or bytes follow the last DONE.
+pub const INNER_WRONG: u8 = 26;
+
+// A set has over 128 columns.
+pub const TOO_MANY_COLUMNS: u8 = 27;
+
+// A row stands in a set without columns.
+pub const ROW_WITHOUT_COLUMNS: u8 = 28;
