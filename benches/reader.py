@@ -1,6 +1,5 @@
-"""The reply reader beside pytds, on packets of rows of NULL Ints. The step is no export, and the compiler leaves no
-function of its own for it, so the program `answer many tokens` is measured, which prints a line for each token; pytds
-prints nothing.
+"""The reply reader beside pytds, on packets of rows of NULL Ints. The program `answer many tokens` is measured, which
+prints a line for each token; pytds prints nothing. `steps.py` has the step alone, by its call for C.
 
 A count is that of two packets less that of one, and a time, which is the processor's, that of some packets less that of
 none: starting is left out, the metadata and the DONE are in."""

@@ -2,14 +2,15 @@
  * the lowest byte that lost its paint tells how deep it went. Prints a line for each export: name, bytes, calls made.
  *
  * Every export is called on every input: a demanding one of each kind, all its prefixes, and it with each byte changed
- * in turn; with room to answer and without; on two paints, since a byte may be written that looks like one of them. */
+ * in turn; with room to answer and without; on two paints, since a byte may be written that looks like one of them. The
+ * reply of a script is stepped over to its end, and so is the reply with each byte changed in turn. */
 #include <stdio.h>
 #include <stdlib.h>
 #include <string.h>
 
 #include "station.h"
 
-enum { STACK = 4096, PUSHED = 48, MOST_ARGUMENTS = 12, INPUT = 4096 };
+enum { STACK = 8192, PUSHED = 48, MOST_ARGUMENTS = 12, INPUT = 4096 };
 
 /* Calls a function on another stack: its first six arguments in registers and the other six, PUSHED bytes, at `top`. */
 int64_t call_on(void *top, void (*function)(void), const uint64_t *arguments);
@@ -35,8 +36,8 @@ __asm__("call_on:\n"
         "    leave\n"
         "    ret\n");
 
-/* An export and its parameters in order: i the input, t a text, b the lent buffer, d the lent ids, o the lent slots
- * (each a pointer and a length), f a bool, c a number of one byte, n another number. */
+/* An export and its parameters in order: i the input, t a text, b the lent buffer, d the lent ids, o the lent slots,
+ * p the lent position (each a pointer and a length), f a bool, c a number of one byte, n another number. */
 struct export {
     const char *name;
     void (*function)(void);
@@ -48,6 +49,7 @@ struct export {
 
 static struct export exports[] = {
     EXPORT(station_parse_header, "io"),
+    EXPORT(station_write_header, "ccnnccb"),
     EXPORT(station_is_whitespace, "n"),
     EXPORT(station_text, "io"),
     EXPORT(station_parse_sql_batch, "io"),
@@ -62,6 +64,8 @@ static struct export exports[] = {
     EXPORT(station_build_query_result_with_extras, "ib"),
     EXPORT(station_room, "i"),
     EXPORT(station_fit, "io"),
+    EXPORT(station_fresh, "p"),
+    EXPORT(station_step, "ipo"),
     EXPORT(station_build_prelogin_response, "b"),
     EXPORT(station_build_prelogin_response_with_encryption, "fb"),
     EXPORT(station_build_prelogin_response_with_fedauth, "ffb"),
@@ -93,7 +97,7 @@ static const uint8_t TEXT[] = {0x61, 0x00, 0xE9, 0x00, 0xAC, 0x20, 0x3D, 0xD8, 0
 
 static _Alignas(16) uint8_t stack[STACK];
 static uint8_t buffer[65535], ids[65535];
-static uint64_t slots[13];
+static uint64_t slots[STATION_LOGIN_SLOTS], position[STATION_POSITION_SLOTS];
 
 static void lend(uint64_t *arguments, size_t *count, const void *place, size_t length)
 {
@@ -112,12 +116,16 @@ static void fill(uint64_t *arguments, const char *parameters, const uint8_t *inp
         case 't': lend(arguments, &count, TEXT, sizeof TEXT); break;
         case 'b': lend(arguments, &count, buffer, room ? sizeof buffer : 0); break;
         case 'd': lend(arguments, &count, ids, room ? sizeof ids : 0); break;
-        case 'o': lend(arguments, &count, slots, room ? sizeof slots / sizeof slots[0] : 0); break;
+        case 'o': lend(arguments, &count, slots, room ? STATION_LOGIN_SLOTS : 0); break;
+        case 'p': lend(arguments, &count, position, room ? STATION_POSITION_SLOTS : 0); break;
         case 'f': arguments[count++] = number & 1; break;
         case 'c': arguments[count++] = number & 0xFF; break;
         default: arguments[count++] = number;
         }
 }
+
+/* The answer of the last call. */
+static int64_t answer;
 
 /* The bytes of stack below the caller's, the return address among them, that a call wrote on one paint. */
 static size_t depth(const struct export *export, const uint64_t *arguments, uint8_t paint)
@@ -125,7 +133,7 @@ static size_t depth(const struct export *export, const uint64_t *arguments, uint
     size_t kept = 0;
 
     memset(stack, paint, STACK);
-    call_on(stack + STACK, export->function, arguments);
+    answer = call_on(stack + STACK, export->function, arguments);
     while (kept < STACK && stack[kept] == paint)
         kept++;
     if (kept == 0) {
@@ -138,10 +146,12 @@ static size_t depth(const struct export *export, const uint64_t *arguments, uint
 static void call(struct export *export, const uint8_t *input, size_t length, uint64_t number, bool room)
 {
     static const uint8_t paints[] = {0xA5, 0x5A};
-    uint64_t arguments[MOST_ARGUMENTS] = {0};
+    uint64_t arguments[MOST_ARGUMENTS] = {0}, before[STATION_POSITION_SLOTS];
 
     fill(arguments, export->parameters, input, length, number, room);
+    memcpy(before, position, sizeof before);
     for (size_t i = 0; i < sizeof paints; i++) {
+        memcpy(position, before, sizeof before);
         size_t found = depth(export, arguments, paints[i]);
         if (found > export->deepest)
             export->deepest = found;
@@ -151,6 +161,7 @@ static void call(struct export *export, const uint8_t *input, size_t length, uin
 
 static void call_all(const uint8_t *input, size_t length)
 {
+    station_fresh(position, STATION_POSITION_SLOTS);
     for (size_t i = 0; i < EXPORTS; i++) {
         call(&exports[i], input, length, 0, true);
         call(&exports[i], input, length, 1, true);
@@ -166,21 +177,47 @@ static void call_numbers(void)
             call(&exports[i], TEXT, sizeof TEXT, number, true);
 }
 
-/* An input, its prefixes, and it with each byte changed. */
-static void call_variants(const uint8_t *input, size_t length)
+/* Steps over a packet to its end or its refusal. */
+static void call_steps(const uint8_t *packet, size_t length)
+{
+    struct export *step = exports;
+
+    while (strcmp(step->name, "station_step") != 0)
+        step++;
+    station_fresh(position, STATION_POSITION_SLOTS);
+    do
+        call(step, packet, length, 0, true);
+    while (answer == 1);
+}
+
+/* An input with each byte changed. */
+static void call_changed(const uint8_t *input, size_t length, void (*calls)(const uint8_t *, size_t))
 {
     static const uint8_t changes[] = {0x01, 0x02, 0x04, 0x80, 0xFF};
     uint8_t changed[INPUT];
 
-    for (size_t shorter = 0; shorter <= length; shorter++)
-        call_all(input, shorter);
     memcpy(changed, input, length);
     for (size_t at = 0; at < length; at++)
         for (size_t i = 0; i < sizeof changes; i++) {
             changed[at] = input[at] ^ changes[i];
-            call_all(changed, length);
+            calls(changed, length);
             changed[at] = input[at];
         }
+}
+
+/* An input, its prefixes, and it with each byte changed; where it is a script, its reply too. */
+static void call_variants(const uint8_t *input, size_t length)
+{
+    uint8_t reply[INPUT];
+    int64_t written = station_build_query_results(input, length, reply, sizeof reply);
+
+    for (size_t shorter = 0; shorter <= length; shorter++)
+        call_all(input, shorter);
+    call_changed(input, length, call_all);
+    if (written > 0) {
+        call_steps(reply, (size_t)written);
+        call_changed(reply, (size_t)written, call_steps);
+    }
 }
 
 /* Reads an input in hexadecimal, a line each, from standard input. */

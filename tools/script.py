@@ -1,13 +1,15 @@
 #!/usr/bin/env python3
-r"""Scripts as text: `compose` writes the bytes that a text stands for, `show` the text that bytes stand for.
+r"""Scripts as text: `compose` writes the bytes that a text stands for, `show` the text that bytes stand for, `try` says
+what becomes of a text's script.
 
     tools/script.py compose [FILE]     text in, script on standard output
     tools/script.py show [FILE]        script in, text on standard output
+    tools/script.py try [FILE]         text in; refused or not, whether it fits, its reply's tokens in words
 
-Without a FILE, standard input is read. A script is what the programs `reply` and `answer` take (document 01, 'The
-script').
+Without a FILE, or with - for it, standard input is read. A script is what the programs `reply` and `answer` take
+(docs/FORMATS.md says what its bytes are).
 
-The text is UTF-8, a record a line. Empty lines, blanks at a line's start and what is behind a `#` count for nothing.
+The text is UTF-8, a record a line. Empty lines, blanks at a line's start and what comes after a `#` count for nothing.
 
     set [BYTES]                             a set, with its classification bytes
     column TYPE TEXT [collation HEX]        a column of the set
@@ -39,6 +41,11 @@ names as `FILE:LINE: what is wrong`, each line at fault; then it writes nothing 
 left out is. A kind that is not known, or a payload that has not its kind's shape, is a line `record`; a record that is
 cut is a line `bytes`. A chunk of a cell NVarCharMax is a text, another one bytes. Characters that do not print are
 escaped. What `show` writes, `compose` turns into the same bytes again, whatever they are.
+
+`try` asks target/bin/answer, which `rt check reply answer` makes, and prints its answers in words: the refusal or the
+misfit with the line of the text at fault, the reply's length, and its tokens. Its exit status is 0 where the script is
+accepted, fits, and its reply is read to the end, else 1. To try a script's bytes, show them first:
+tools/script.py show FILE | tools/script.py try
 """
 import json
 import re
@@ -62,6 +69,8 @@ DEFAULT_STATE, DEFAULT_LINE = 1, 0
 MOST_UNITS = 0xFFFF
 MOST_TIMES = 65_536
 MOST_NAMED = 40
+CALLS = ("compose", "show", "try")
+FIRST_CHARACTERS = b"\t\n\r" + bytes(range(0x20, 0x7F))
 
 # A line's items: a text in quotes, its times after it; a word. A gap or a comment is none.
 ITEM = re.compile(r'''(?P<gap> [ \t\r]+ | \#.*)
@@ -138,7 +147,7 @@ class Line:
             if found.lastgroup != "gap":
                 self.items.append((found.lastgroup, found.group()))
                 if line[found.end():found.end() + 1] not in ("", " ", "\t", "\r", "#"):
-                    raise Fault(f"a blank is missing behind {named(found.group())}")
+                    raise Fault(f"a blank is missing after {named(found.group())}")
         self.items.reverse()
 
     def more(self):
@@ -301,17 +310,49 @@ def composed_line(text):
     return record(kind, payload)
 
 
-def compose(text):
-    """The script of a text, both bytes, and what is wrong, each as a line's number and a sentence."""
-    script, faults = [], []
-    for number, line in enumerate(text.removeprefix(b"\xEF\xBB\xBF").split(b"\n"), 1):
+def lines_of(text):
+    """The lines of a text in UTF-8, as bytes."""
+    return text.removeprefix(b"\xEF\xBB\xBF").split(b"\n")
+
+
+def composed_lines(text):
+    """The bytes of each line of a text, and what is wrong, each as a line's number and a sentence."""
+    composed, faults = [], []
+    for number, line in enumerate(lines_of(text), 1):
         try:
-            script.append(composed_line(line.decode()))
+            composed.append(composed_line(line.decode()))
         except UnicodeDecodeError:
             faults.append((number, "not UTF-8"))
         except Fault as fault:
             faults.append((number, str(fault)))
-    return b"".join(script), faults
+    return composed, faults
+
+
+def compose(text):
+    """The script of a text, both bytes, and what is wrong, each as a line's number and a sentence."""
+    composed, faults = composed_lines(text)
+    return b"".join(composed), faults
+
+
+def utf16_form(given):
+    """The form of UTF-16 that bytes begin in, by its mark or by a first character of ASCII; None of others."""
+    if given[:2] in (b"\xFF\xFE", b"\xFE\xFF"):
+        return "UTF-16"
+    if given[2:4] == b"\0\0" or len(given) < 2:
+        return None
+    if given[1] == 0:
+        return "UTF-16LE" if given[0] in FIRST_CHARACTERS else None
+    return "UTF-16BE" if given[0] == 0 and given[1] in FIRST_CHARACTERS else None
+
+
+def not_a_text(given):
+    """What is said of bytes that are UTF-16 or a script's and no text in UTF-8; None of others."""
+    form = utf16_form(given)
+    if form:
+        return f"the text is {form} and has to be UTF-8; this converts it: iconv -f {form} -t UTF-8"
+    if 0 in given[:2]:
+        return "bytes and not a text; `tools/script.py show` writes the text of a script's bytes"
+    return None
 
 
 def shown_bytes(held):
@@ -402,52 +443,78 @@ def shown_record(kind, payload, of_text):
     return " " * INDENTS.get(kind, 0) + " ".join([NAMES[kind], *words])
 
 
-def show(script):
-    """The text of any bytes, as lines."""
-    at, of_text = 0, False
+def records(script):
+    """The records of any bytes: of each its start, kind and payload; of one that is cut the kind None and its bytes."""
+    at = 0
     while at < len(script):
         length, kind = HEAD.unpack_from(script, at) if len(script) - at >= HEAD.size else (len(script), 0)
         start = at + HEAD.size
         if len(script) - start < length:
-            yield f"bytes {shown_bytes(script[at:])}"
+            yield at, None, script[at:]
             return
-        payload = script[start:start + length]
-        of_text = of_text if kind == CHUNK else (kind, payload) == (CELL, TEXT_CELL)
-        yield shown_record(kind, payload, of_text)
+        yield at, kind, script[start:start + length]
         at = start + length
 
 
+def show(script):
+    """The text of any bytes, as lines."""
+    of_text = False
+    for _, kind, payload in records(script):
+        of_text = of_text if kind == CHUNK else (kind, payload) == (CELL, TEXT_CELL)
+        yield f"bytes {shown_bytes(payload)}" if kind is None else shown_record(kind, payload, of_text)
+
+
 def read(name):
-    if name is None:
+    if name == "-":
         return sys.stdin.buffer.read()
     with open(name, "rb") as file:
         return file.read()
 
 
+def composed(given, name):
+    """The lines of a text with their bytes, or None where it cannot be read; what is wrong is said."""
+    wrong = not_a_text(given)
+    if wrong:
+        print(f"{name}: {wrong}", file=sys.stderr)
+        return None
+    lines, faults = composed_lines(given)
+    for number, fault in faults:
+        print(f"{name}:{number}: {fault}", file=sys.stderr)
+    return None if faults else lines
+
+
+def answered(call, given, name):
+    """The exit status of a call on what it is given."""
+    if call == "show":
+        sys.stdout.buffer.write("".join(line + "\n" for line in show(given)).encode())
+        return 0
+    lines = composed(given, name)
+    if lines is None:
+        return 1
+    if call == "compose":
+        sys.stdout.buffer.write(b"".join(lines))
+        return 0
+    import trying
+    return trying.main(name, lines_of(given), lines)
+
+
 def main(arguments):
-    if arguments[:1] in (["-h"], ["--help"]):
+    if "-h" in arguments or "--help" in arguments:
         print(__doc__.strip())
         return 0
-    if arguments[:1] not in (["compose"], ["show"]) or len(arguments) > 2:
-        print("usage: tools/script.py compose|show [FILE], or --help", file=sys.stderr)
+    if not arguments or arguments[0] not in CALLS or len(arguments) > 2:
+        print(f"usage: tools/script.py {'|'.join(CALLS)} [FILE], or --help", file=sys.stderr)
         return 2
-    name = arguments[1] if len(arguments) == 2 else None
+    call, name = arguments[0], arguments[1] if len(arguments) == 2 else "-"
     try:
         given = read(name)
     except OSError as error:
         print(f"{name}: {error.strerror}", file=sys.stderr)
         return 1
-    if arguments[0] == "show":
-        sys.stdout.buffer.write("".join(line + "\n" for line in show(given)).encode())
-        return 0
-    script, faults = compose(given)
-    for number, fault in faults:
-        print(f"{name or 'standard input'}:{number}: {fault}", file=sys.stderr)
-    if not faults:
-        sys.stdout.buffer.write(script)
-    return 1 if faults else 0
+    return answered(call, given, "standard input" if name == "-" else name)
 
 
 if __name__ == "__main__":
     signal.signal(signal.SIGPIPE, signal.SIG_DFL)
+    sys.dont_write_bytecode = True
     sys.exit(main(sys.argv[1:]))

@@ -4,12 +4,14 @@
 //! the case's call once to warm up and once within `measured`, and prints the bytes of its input,
 //! the bytes of its answer and the answer's sum. `bench CASE time` runs the call on both sides in
 //! turn, many times, and prints the nanoseconds of ours and of the Rust's; ours is `-` where the
-//! library does not export it.
+//! library does not export it. `bench steps` reads the packet on standard input by `station_step`.
 
 mod cases;
 mod region;
 mod requests;
 mod results;
+#[cfg(feature = "result")]
+mod steps;
 
 // What the tests against the Rust have: inputs, records and the library's exports.
 #[allow(dead_code, unused_imports)]
@@ -41,7 +43,7 @@ use cases::{Case, Outcome, Side, cases};
 use region::Measure;
 use std::process::ExitCode;
 
-const USAGE: &str = "bench list\nbench CASE ours|rust|time";
+const USAGE: &str = "bench list\nbench CASE ours|rust|time\nbench steps";
 
 /// How often the sides take turns. A time is the least of so many medians: whatever else the machine
 /// does only adds to it.
@@ -55,6 +57,8 @@ fn main() -> ExitCode {
             list();
             Some(())
         }
+        #[cfg(feature = "result")]
+        ["steps"] => steps::count(),
         [case, "ours"] => count(case, Side::Ours),
         [case, "rust"] => count(case, Side::Rust),
         [case, "time"] => time(case),

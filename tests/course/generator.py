@@ -141,6 +141,25 @@ def damaged_script(source):
     return bytes(script)
 
 
+def unsent_after(source, one):
+    """A record that may stand after another one, and that may be an empty chunk or have too long a name; or nothing."""
+    kind, name = one[4], source.choice((255, 256, 300))
+    if kind == 6 or kind == 5 and one[6] in (6, 8, 9):
+        return record(6)
+    if kind == 2:
+        return record(2, one[6:12] + bytes(2 * name))
+    if kind in (3, 9):
+        counts = source.choice(((0, name, 0), (name, 0, 255), (0, 255, name)))
+        return record(kind, struct.pack("<IBBI3H", 1, 1, 1, 1, *counts) + bytes(2 * sum(counts)))
+    return b""
+
+
+def unsent_script(source):
+    """An accepted script but for empty chunks and long names here and there, which a terminal error may drop."""
+    records = accepted_records(source)
+    return b"".join(one + (unsent_after(source, one) if source.random() < 0.1 else b"") for one in records)
+
+
 def swept_scripts():
     """Records of every kind, first byte and short length, at each place where a set's records may stand."""
     starts = [record(1), record(1) + record(4)]

@@ -1,4 +1,5 @@
-"""What a text that `show` wrote means: its script's refusal, 11 to 14, and the tokens that it emits (document 01).
+"""What a text that `show` wrote means: its script's refusal, 11 to 14, the tokens that it emits, and the line at fault
+(document 01).
 
 Reads the lines by itself, and rests on nothing of tools/script.py.
 """
@@ -57,17 +58,57 @@ def line_fault(last, name, words):
     return NONE if name == "chunk" or well_formed(words) else TEXT_WRONG
 
 
-def refusal(lines):
-    """The refusal for order, shapes and texts, or none."""
+def first_fault(lines):
+    """The line, counted from 0, that is at fault for its order, shape or text, and its refusal; None where none is."""
     last = ""
-    for line in lines:
+    for at, line in enumerate(lines):
         name, words = items(line)
         fault = line_fault(last, name, words)
         if fault:
-            return fault
+            return at, fault
         chunked = name == "chunk" or name == "cell" and words[0] in CHUNKED
         last = "chunked" if chunked else name
-    return NONE if last else KIND_WRONG
+    return None, NONE if last else KIND_WRONG
+
+
+def refusal(lines):
+    """The refusal for order, shapes and texts, or none."""
+    return first_fault(lines)[1]
+
+
+def unsent(line):
+    """Whether a line is an empty chunk, or has a column's, server's or procedure's name of over 255 units."""
+    name, words = items(line)
+    if name == "chunk":
+        return words[0] in ("-", '""')
+    names = words[1:2] if name == "column" else words[4:] if name in ("info", "trailing info") else []
+    return any(word.startswith('"') and len(text(word)) // 2 > 255 for word in names)
+
+
+def first_unsent(lines):
+    """The first line, counted from 0, that cannot be sent (15 and 16)."""
+    return next(at for at, line in enumerate(lines) if unsent(line))
+
+
+def places(lines, start, end, name):
+    """The lines within start and end, counted from 0, that are records of a name."""
+    return [at for at in range(start, end) if items(lines[at])[0] == name]
+
+
+def misfit_place(lines, misfit):
+    """The line, counted from 0, of a misfit: a set, a column, a cell, or a row where the cell is not there."""
+    _, kind, number, *rest = misfit.split()
+    ends = [*places(lines, 0, len(lines), "set"), len(lines)]
+    start, end = ends[int(number)], ends[int(number) + 1]
+    if kind == "class":
+        return start
+    if kind == "column":
+        return places(lines, start, end, "column")[int(rest[0])]
+    rows = [*places(lines, start, end, "row"), end]
+    row = rows[int(rest[0])]
+    cells = places(lines, row, rows[int(rest[0]) + 1], "cell")
+    has_columns = bool(places(lines, start, end, "column"))
+    return cells[int(rest[1])] if has_columns and int(rest[1]) < len(cells) else row
 
 
 def digits(held):

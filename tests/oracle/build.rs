@@ -52,7 +52,11 @@ fn link_station(root: &Path) {
         return;
     }
     let folder = env::var_os("STATION_LIB_DIR").map_or_else(|| root.join(LIBRARY), PathBuf::from);
-    println!("cargo:rerun-if-changed={}", folder.join("libstation.a").display());
+    let archive = folder.join("libstation.a");
+    println!("cargo:rerun-if-changed={}", archive.display());
+    if !archive.exists() {
+        println!("cargo::error=there is no {}: rt staticlib station", archive.display());
+    }
     println!("cargo:rustc-link-search=native={}", folder.display());
     println!("cargo:rustc-link-lib=static=station");
 }

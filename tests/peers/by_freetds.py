@@ -1,4 +1,4 @@
-"""Conversations of FreeTDS with the bridge: of its program tsql (Debian's freetds-bin) and of pymssql (Debian's
+"""Conversations of FreeTDS with a unit: of its program tsql (Debian's freetds-bin) and of pymssql (Debian's
 python3-pymssql), which rests on its library. What each tells of a reply, and what it should tell by the script's
 tokens.
 
@@ -25,7 +25,7 @@ import pymssql as client
 
 import scripts
 
-SERVER = "bridge"
+SERVER = "unit"
 PATIENCE = 120
 CONFIGURATION = """[global]
     tds version = 7.4
@@ -52,7 +52,7 @@ class Script(scripts.Script):
 
 
 def configure(folder, port):
-    """Lets FreeTDS find the bridge: the server's name, its port, and TDS 7.4."""
+    """Lets FreeTDS find the unit: the server's name, its port, and TDS 7.4."""
     path = pathlib.Path(folder) / "freetds.conf"
     path.write_text(CONFIGURATION.format(server=SERVER, port=port))
     os.environ["FREETDSCONF"] = str(path)

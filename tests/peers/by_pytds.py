@@ -1,5 +1,5 @@
 """Replies read by pytds (Debian's python3-tds): packets, which its session reads from a transport that holds their
-bytes, and whole conversations with the bridge, in transactions.
+bytes, and whole conversations with a unit, in transactions.
 
 In a conversation pytds tells all sets and messages, and of each set the row count where the DONE's status has bit
 0010 (MS-TDS 2.2.7.6), else -1. It holds a packet in a buffer of the size that the login agreed, 4,096 bytes, and
@@ -142,7 +142,7 @@ def conversation(port, texts, withdrawn):
 
 
 def heard(cursor, text):
-    """All that pytds tells of one reply: messages, the error and sets. Behind a leading error it goes on."""
+    """All that pytds tells of one reply: messages, the error and sets. After a leading error it goes on."""
     error, sets = [], []
     try:
         cursor.execute(text)

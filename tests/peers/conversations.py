@@ -1,23 +1,23 @@
-"""Whole conversations of three clients with the bridge: prelogin, a login that is routed, a login, setup,
+"""Whole conversations of three clients with a unit (tools/serve.py): prelogin, a login that is routed, a login, setup,
 transactions, batches and attentions.
 
-What a client tells of the replies is compared with the scripts, and what the bridge read with what was sent: server
+What a client tells of the replies is compared with the scripts, and what the unit read with what was sent: server
 and database of the logins, text and transaction descriptor of each batch, the transaction requests, and the
 attention that withdraws a batch.
 """
 import collections
 
-import bridge
 import by_freetds
 import by_pytds
 import scripts
+import unit
 
 # `free`: whether a batch may be any text, and be withdrawn. `transactions`: whether the client asks for them.
 Client = collections.namedtuple("Client", "group name talk expected server free transactions")
 CLIENTS = (
-    Client("freetds", "pymssql", by_freetds.pymssql, by_freetds.pymssql_expected, bridge.HOST, True, False),
+    Client("freetds", "pymssql", by_freetds.pymssql, by_freetds.pymssql_expected, unit.HOST, True, False),
     Client("freetds", "tsql", by_freetds.tsql, by_freetds.tsql_expected, by_freetds.SERVER, False, False),
-    Client("pytds", "pytds", by_pytds.conversation, by_pytds.conversation_expected, bridge.HOST, True, True),
+    Client("pytds", "pytds", by_pytds.conversation, by_pytds.conversation_expected, unit.HOST, True, True),
 )
 # What trimming removes (document 01, 'Requests and logins'); of a range both ends.
 WHITE = "\t\n\v\f\r \x85\xA0\u1680\u2000\u200A\u2028\u2029\u202F\u205F\u3000"
@@ -48,11 +48,11 @@ def begins_with_rows(tokens):
 
 def hold(client, source, made):
     """A client's conversation: for each script what the client should tell and what it told, and of the requests how
-    they were sent and how the bridge read them."""
+    they were sent and how the unit read them."""
     sent, withdrawn = batches(client, source, made)
-    with bridge.running([script for script, _ in made]) as running:
-        told = client.talk(running.port, sent, withdrawn)
-        journal = running.journal()
+    with unit.running([script for script, _ in made]) as served:
+        told = client.talk(served.port, sent, withdrawn)
+        journal = served.journal()
     expected = [list(client.expected(answer(text, tokens))) for text, (_, tokens) in zip(sent, made)]
     return zip(expected, told, strict=True), (list(requests(client, sent, withdrawn)), list(read(journal, withdrawn)))
 
@@ -67,7 +67,7 @@ def answer(text, tokens):
 
 def requests(client, sent, withdrawn):
     """The requests of a conversation, but the client's own setup."""
-    for server in (client.server, bridge.HOST):
+    for server in (client.server, unit.HOST):
         yield "prelogin",
         yield "login", server, scripts.DATABASE
     for i, text in enumerate(sent):
@@ -85,7 +85,7 @@ def requests(client, sent, withdrawn):
 
 
 def read(journal, withdrawn):
-    """The same as the bridge read them. Attentions that a client sends by itself, at an error, are left out."""
+    """The same as the unit read them. Attentions that a client sends by itself, at an error, are left out."""
     trimmed, last = {text.strip(WHITE) for text in withdrawn}, None
     for entry in journal:
         kind = entry["request"]
@@ -95,5 +95,5 @@ def read(journal, withdrawn):
                 yield kind, last, entry["descriptor"]
         elif kind == "login":
             yield kind, entry["server"].partition(",")[0], entry["database"]  # FreeTDS names the port of a route, too
-        elif kind != "attention" or last in trimmed:
+        elif kind != "left" and (kind != "attention" or last in trimmed):
             yield kind, *(entry[field] for field in ("type", "why") if field in entry)

@@ -4,7 +4,7 @@ import re
 SPARED, LONGEST_PERIOD = 48, 32  # a run spares so many bytes at least; the longest piece that is repeated
 # what a login may lack, and the words for it
 BYTES, NO_BYTE = ("workflow", "classversion"), "256"
-PARTS, NO_PART = ("token", "server", "useragent", "database"), "4294967296 0"
+PARTS, NO_PART = ("token", "server", "useragent", "database"), f"{2**64 - 1} 0"
 PLACE = re.compile(r"(\S+) @([0-9]+)\+([0-9]+)")
 FUNCTIONS = {
     "header": "parse_header",

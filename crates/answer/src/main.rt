@@ -1,5 +1,6 @@
 // `answer CALL`: one call of the crates, its input on standard input, its answer as lines of text.
 // `answer many CALL`: any number of inputs, each a 4-byte little-endian length and the bytes; an empty line follows each answer.
+// Other arguments: a line on standard error says what it takes, and standard input is not read.
 mod calls;
 mod lines;
 mod logins;
@@ -14,10 +15,18 @@ fn main() {
     let mut name = [0u8; 16];
     let first = os::arg(1, &mut name);
     if check::same(&name[..first], b"many") {
-        many(calls::named(2));
+        many(named_last(2, 3));
     } else {
-        once(calls::named(1));
+        once(named_last(1, 2));
     }
+}
+
+// The call that an argument names, where as many are given: the program's own name counts, and none follows the call's.
+fn named_last(argument: usize, count: usize) -> Call {
+    if os::arg_count() != count {
+        return Call::Unknown;
+    }
+    calls::named(argument)
 }
 
 fn once(call: Call) {
@@ -42,7 +51,7 @@ fn many(call: Call) {
 
 fn usage() {
     io::write_all(
-        libc::STDOUT_FILENO,
-        b"usage: answer [many] CALL, where CALL is one of: reply room fit tokens places batch trans descriptor fedauth header login\n",
+        libc::STDERR_FILENO,
+        b"usage: answer [many] CALL < INPUT, where CALL is one of: reply room fit tokens places batch trans descriptor fedauth header login\n",
     );
 }

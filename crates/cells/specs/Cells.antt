@@ -1,5 +1,6 @@
 -- Column types and cells (MS-TDS 2.2.5.4.2 and 2.2.5.4.3, 2.2.5.6 TYPE_INFO, 2.2.5.2.3 PLP_BODY; document 01, 'The reply reader').
 -- They know nothing of headers and positions. Rests on payload's places and on token's types and signs.
+-- docs/FORMATS.md, 'Tokens and types that are read', has it in words.
 use Prim.Native.Nat.{ℕ, zero, suc, _-_}
 use mathlib.Core.Bool.{Bool, cond, not, _&&_, _||_}
 use mathlib.Core.List.{List}

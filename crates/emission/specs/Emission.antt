@@ -1,5 +1,6 @@
 -- What a script emits (document 01, 'What a script emits', 'The reply packet'): the token list, set by set and row by row, and
 -- the reply's bytes. Rests on the shapes of script, the script's sets, the tokens of token and the packet of packet.
+-- docs/FORMATS.md, 'What is sent', has it in words.
 use Prim.Native.Nat.{ℕ}
 use mathlib.Core.List.{List, [], _∷_, _++_, map, flatMap}
 use lib.ListN.{length, take, drop}

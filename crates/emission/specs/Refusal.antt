@@ -1,5 +1,6 @@
 -- Which scripts are refused, and by which number (document 01, 'Who causes which refusal'): 11 to 14 of the script, then, in what
 -- is emitted only, the first of 15 and 16, then 17. Rests on Emission, token's names and script's verdict.
+-- docs/FORMATS.md, 'Refusals', has it in words.
 use Prim.Native.Nat.{ℕ}
 use mathlib.Core.Bool.{Bool, false, cond, _||_}
 use mathlib.Core.List.{List, [], _∷_}

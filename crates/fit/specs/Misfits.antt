@@ -1,5 +1,6 @@
 -- Which scripts fit, and which misfits the others have (document 01, 'The script': 'fits' and 'misfit' are its terms). Sets,
 -- rows, columns and cells are numbered from 0. Rests on text's surrogates, script's sets and emission's refusals.
+-- docs/FORMATS.md, 'What fits', has it in words.
 use Prim.Native.Nat.{ℕ, suc}
 use mathlib.Core.List.{List, [], _∷_, _++_, map}
 use mathlib.Core.Bool.{Bool, cond, not, _&&_}

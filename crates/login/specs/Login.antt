@@ -1,4 +1,5 @@
 -- The login, its feature ids, and the database to open (document 01, 'Requests and logins'). Rests on Body, Features and Rules.
+-- docs/FORMATS.md, 'Requests that are read', has it in words.
 use Prim.Native.Nat.{ℕ}
 use mathlib.Core.List.{List, foldl}
 use mathlib.Core.Bool.{false, cond}

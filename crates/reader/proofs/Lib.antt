@@ -12,3 +12,4 @@ pub mod CodeTokens
 pub mod CodePositions
 pub mod CodeSteps
 pub mod CodeSpots
+pub mod Alike

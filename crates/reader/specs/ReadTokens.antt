@@ -1,5 +1,6 @@
 -- The tokens of a reply as they are read, field by field (MS-TDS 2.2.7.4 COLMETADATA, 2.2.7.6 DONE, 2.2.7.10 ERROR, 2.2.7.13
 -- INFO, 2.2.7.20 ROW; document 01, 'The reply reader'). Rests on payload's places and the types of cells.
+-- docs/FORMATS.md, 'Tokens and types that are read', has it in words.
 use Prim.Native.Nat.{ℕ, _-_, _*_}
 use mathlib.Core.Bool.{cond, _&&_, _||_}
 use mathlib.Core.List.{List}

@@ -1,4 +1,5 @@
--- The numbers of refusals, each with its cause (document 01, 'Who causes which refusal'). Rests on nothing.
+-- The numbers of refusals, each with its cause (document 01, 'Who causes which refusal'). Rests on nothing. docs/FORMATS.md,
+-- 'Refusals', is the table of them: who causes each, which calls give it, and which one comes first.
 use Prim.Native.Nat.{ℕ}
 
 -- ---- Client

@@ -26,14 +26,14 @@ pub(crate) fn holds(line: &[u8], name: &[u8]) -> bool {
     }
 }
 
-fn is_written(line: &[u8], buf: &[u8], len: usize) -> bool {
+pub(crate) fn is_written(line: &[u8], buf: &[u8], len: usize) -> bool {
     if !calls::is_kept(buf, len) {
         return false;
     }
     calls::same_bytes(line, wire::part_of(buf, calls::first(len)))
 }
 
-fn is_refused(line: &[u8], buf: &[u8], refusal: u8) -> bool {
+pub(crate) fn is_refused(line: &[u8], buf: &[u8], refusal: u8) -> bool {
     if !calls::is_kept(buf, 0) {
         return false;
     }

@@ -1,5 +1,6 @@
 // The calls of a list by their names, and how an answer is held against the one that the line holds.
 use crate::builds;
+use crate::headers;
 use crate::logins;
 use crate::replies;
 use crate::requests;
@@ -14,6 +15,9 @@ pub(crate) fn holds(line: &[u8]) -> bool {
     let name = words::word(line, 0);
     if check::same(words::piece(name, 0, b'_'), b"build") {
         return builds::holds(line, name);
+    }
+    if check::same(name, b"write_header") {
+        return headers::holds(line);
     }
     let mut input = spaces::zeros();
     if check::same(name, b"parse_login7") {

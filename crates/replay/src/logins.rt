@@ -12,7 +12,7 @@ use wire::Part;
 // What a login holds where a byte or a text is none (include/station.h).
 const NO_BYTE: u64 = 256;
 
-const NO_START: u64 = 4294967296;
+const NO_START: u64 = u64::MAX;
 
 // `parse_login7 IDS BODY`: so many ids are lent. Fedauth, library, workflow, classification version, session, start and
 // length of token, server, user agent and database, then the number of ids and each of them.

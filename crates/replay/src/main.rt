@@ -3,6 +3,7 @@
 // last `replayed N, D differ`.
 mod builds;
 mod calls;
+mod headers;
 mod logins;
 mod replies;
 mod requests;

@@ -1,4 +1,5 @@
-// `reply`: a script on standard input; its reply packet, raw, or the line `refused N`.
+// `reply`: a script on standard input; its reply packet, raw, or the line `refused N`. It takes no arguments.
+use libc::STDERR_FILENO;
 use libc::STDIN_FILENO;
 use libc::STDOUT_FILENO;
 use refusals::INPUT_TOO_LONG;
@@ -13,6 +14,18 @@ const ROOM: usize = 65537;
 const PACKET: usize = 65535;
 
 fn main() {
+    // The program's own name is one of those that are counted.
+    if os::arg_count() > 1 {
+        return usage();
+    }
+    answer_input();
+}
+
+fn usage() {
+    io::write_all(STDERR_FILENO, b"usage: reply < SCRIPT\n");
+}
+
+fn answer_input() {
     let mut input = [0u8; ROOM];
     let n = io::read_full(STDIN_FILENO, &mut input);
     if n <= MOST {

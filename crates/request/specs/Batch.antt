@@ -1,5 +1,6 @@
 -- A SQL batch (MS-TDS 2.2.6.7: ALL_HEADERS, then the SQL text in UTF-16LE), and who causes which refusal (document 01). Rests on Headers
 -- and on text's definitions.
+-- docs/FORMATS.md, 'Requests that are read', has it in words.
 use Prim.Native.Nat.{ℕ, _+_, _*_}
 use mathlib.Core.List.{List}
 use mathlib.Core.Bool.{cond}

@@ -1,5 +1,6 @@
 -- What a builder answers and what it leaves in the lent buffer, the same for all of them (document 01, 'Who causes which
 -- refusal'). Rests on wire's `overwrite`.
+-- docs/FORMATS.md, 'Which one comes first', has it in words.
 use Prim.Native.Nat.{ℕ}
 use mathlib.Core.Bool.{cond}
 use mathlib.Core.List.{List, [], _∷_}

@@ -1,5 +1,6 @@
 -- Lists of records: routes of kind 0x0011 (plain, empty) and 0x0012 (database text), feature acknowledgements of kind
 -- 0x0013 (id, data) (document 01, 'Other replies'). Rests on script's records, Login and Routing.
+-- docs/FORMATS.md, 'Lists of records', has it in words.
 use Prim.Native.Nat.{ℕ}
 use mathlib.Core.Bool.{cond}
 use mathlib.Core.List.{List, [], _∷_, _++_}

@@ -1,5 +1,6 @@
 -- The order of a script's records (document 01, 'The script': one or more sets, each 1, columns, at most one 7, at most
 -- one 8, infos, rows with cells with chunks; then kind 9 records). Rests on wire.
+-- docs/FORMATS.md, 'The order of records', has it in words.
 use Prim.Native.Nat.{ℕ}
 use mathlib.Core.List.{List, [], _∷_}
 use mathlib.Core.Bool.{Bool, false, cond, _||_}

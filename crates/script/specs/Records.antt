@@ -1,5 +1,6 @@
 -- Records: a 4-byte payload length, a 2-byte kind and the payload (document 01, 'The script'). Scripts, lists of routes
 -- and lists of features are all records. Rests on wire.
+-- docs/FORMATS.md, 'A record', has it in words.
 use Prim.Native.Nat.{ℕ, zero, suc, _+_}
 use mathlib.Core.List.{List, [], _∷_}
 use mathlib.Core.Bool.{cond}

@@ -1,4 +1,5 @@
 -- The shapes of payloads (document 01, 'The script'): what a record of each kind holds, and where. Rests on wire.
+-- docs/FORMATS.md, 'The nine kinds', has it in words.
 use Prim.Native.Nat.{ℕ, _+_, _*_}
 use mathlib.Core.List.{List, [], _∷_}
 use mathlib.Core.Bool.{Bool, true, cond, not, _&&_, _||_}

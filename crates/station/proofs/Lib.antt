@@ -3,3 +3,7 @@ pub mod Ends
 pub mod Ids
 pub mod Lengths
 pub mod Builds
+pub mod Twos
+pub mod Stepping
+pub mod Typed
+pub mod Lasting

@@ -4,3 +4,5 @@ pub mod Requests
 pub mod Logins
 pub mod Results
 pub mod Builds
+pub mod Steps
+pub mod Stepping

@@ -1,5 +1,5 @@
 -- What the exports that read a login answer. Rests on the definitions of `login`.
-use Prim.Native.Nat.{ℕ, _^_}
+use Prim.Native.Nat.{ℕ}
 use mathlib.Core.Bool.{cond}
 use mathlib.Core.List.{List, [], _∷_}
 use lib.ListN.{length}
@@ -20,10 +20,10 @@ abbrev pub byteSlot : Byte → ℕ
 byteSlot (Is n) = n
 byteSlot Absent = 256
 
--- a text's part, and where there is none a start of 2^32 and a length of 0
+-- a text's part, and where there is none a start of 2^64 - 1, which no text has, and a length of 0
 abbrev pub partSlots : Text → Part
 partSlots (At p) = p
-partSlots Missing = record { start = 2 ^ 32; len = 0 }
+partSlots Missing = record { start = 0xFFFF_FFFF_FFFF_FFFF; len = 0 }
 
 -- the 13 slots of a login: fedauth, library, workflow, classification version, session; then start and length of token, server, user agent,
 -- database

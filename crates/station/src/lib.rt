@@ -7,12 +7,19 @@ mod logins;
 mod requests;
 mod results;
 mod slots;
+mod steps;
 
+use refusals::BUFFER_TOO_SHORT;
 use refusals::NONE;
+use refusals::UNKNOWN_PACKET_TYPE;
 ghost use mathlib.Core.Path.{_≡_};
 ghost use Rattle.station.specs.Answer.{numberOf, answerOf, slotsOf};
-ghost use Rattle.station.specs.Calls.{headerOutcome, headerCall, whitespaceCall, textOutcome, textCall};
+ghost use Rattle.station.specs.Calls.{headerOutcome, headerCall, writtenHeader, writeHeaderCall, whitespaceCall, textOutcome, textCall};
+use packet::KnownType;
+use packet::PACKET_HEADER_SIZE;
 use packet::PacketHeader;
+use packet::PacketStatus;
+use packet::PacketType;
 use packet::Parsed;
 use slots::answered;
 use slots::flag;
@@ -44,6 +51,46 @@ fn tell_header(header: PacketHeader, out: &mut [u64]) -> i64
         header.window as u64,
     ];
     answered(out, 0, &values)
+}
+
+// 8: a packet header at the front of buf.
+#[no_mangle]
+pub extern "C" fn station_write_header(
+    packet_type: u8,
+    status: u8,
+    length: u16,
+    spid: u16,
+    number: u8,
+    window: u8,
+    buf: &mut [u8],
+) -> i64
+    ensures { λ r. ⌜ r ≡ answerOf (writeHeaderCall «packet_type» status length spid number window) (now (buf .entry)) ⌝ }
+    ensures { λ _. ⌜ now (buf .exit) ≡ slotsOf (writeHeaderCall «packet_type» status length spid number window) (now (buf .entry)) ⌝ }
+{
+    match PacketType::try_from(packet_type) {
+        KnownType::Known(known) => {
+            let header = PacketHeader {
+                packet_type: known,
+                status: PacketStatus(status),
+                length,
+                spid,
+                packet_id: number,
+                window,
+            };
+            write_header(header, buf)
+        }
+        KnownType::Unknown => refused(UNKNOWN_PACKET_TYPE),
+    }
+}
+
+fn write_header(header: PacketHeader, buf: &mut [u8]) -> i64
+    ensures { λ r. ⌜ r ≡ answerOf (writtenHeader header) (now (buf .entry)) ⌝ }
+    ensures { λ _. ⌜ now (buf .exit) ≡ slotsOf (writtenHeader header) (now (buf .entry)) ⌝ }
+{
+    if buf.len() < PACKET_HEADER_SIZE {
+        return refused(BUFFER_TOO_SHORT);
+    }
+    header.write(buf, 0) as i64
 }
 
 // 1 where trimming removes the unit, else 0.

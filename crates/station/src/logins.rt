@@ -21,8 +21,8 @@ const LOGIN_SLOTS: usize = 13;
 // The slot of a byte that is not there.
 const NO_BYTE: u64 = 256;
 
-// The start of a text that is not there.
-const NO_START: usize = 0x1_0000_0000;
+// The start of a text that is not there: no text has it.
+const NO_START: usize = usize::MAX;
 
 // The number of feature ids, which stand in the first of ids; fedauth, library, workflow, classification version and
 // session, then start and length of token, server, user agent and database. Too few slots are found out before ids are

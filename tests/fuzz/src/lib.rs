@@ -35,6 +35,8 @@ include!(concat!(env!("OUT_DIR"), "/rust_modules.rs"));
 
 mod compact;
 pub mod mutate;
+mod reading;
 mod replies;
+mod steps;
 pub mod targets;
 mod wall;

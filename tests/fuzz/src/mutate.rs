@@ -2,6 +2,7 @@
 //! with its table of offsets and its features; at times another input of the oracle's. Half of all
 //! mutations are libFuzzer's own, on the bytes.
 
+use crate::answers::reply::reply;
 use crate::inputs::login::{random_feature, random_login, scattered_login};
 use crate::inputs::request::*;
 use crate::inputs::script::{damaged, random_record, random_script};
@@ -19,6 +20,7 @@ pub fn mutated(target: &str, input: &[u8], most: usize, seed: u64, own: Own) -> 
         "script" => Some(script(&mut random, input, most, own)),
         "login" => Some(login(&mut random, input)),
         "request" if random.one_in(8) => Some(request(&mut random)),
+        "steps" if random.one_in(8) => another_reply(&mut random),
         _ => None,
     };
     shaped.filter(|bytes| bytes.len() <= most).unwrap_or_else(|| own(input, most))
@@ -74,6 +76,12 @@ fn split(mut bytes: &[u8]) -> (Vec<Record>, &[u8]) {
 fn request(random: &mut Random) -> Vec<u8> {
     let makers = [random_batch, random_transaction, random_descriptor, random_token_message];
     random.pick(&makers)(random)
+}
+
+/// The reply to another script, whole, with no slot forged.
+fn another_reply(random: &mut Random) -> Option<Vec<u8>> {
+    let reply = reply(&records::written(&random_script(random))).ok()?;
+    Some([&[0x01, 0x00], &reply[..]].concat())
 }
 
 /// The login with a table entry or the place of its features moved, or with a feature more; at times

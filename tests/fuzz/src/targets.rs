@@ -5,11 +5,13 @@ use crate::compare::Check;
 use crate::groups::{header, login, request, result, text};
 use crate::replies;
 use crate::script::records;
+use crate::steps;
 use crate::wall::Wall;
 
 /// script: a script's bytes. records: a script of right lengths, in the compact form. login: a
 /// login's body. request: a body or payload for all other readers. response: a choice and arguments.
-pub const NAMES: [&str; 5] = ["script", "records", "login", "request", "response"];
+/// steps: a packet, and slots of a position.
+pub const NAMES: [&str; 6] = ["script", "records", "login", "request", "response", "steps"];
 
 pub struct Target {
     name: &'static str,
@@ -32,6 +34,7 @@ impl Target {
             "records" => result::compare_one(wall.lend(&script_of(input))),
             "login" => login::compare_one(wall.lend(input)),
             "request" => read(wall.lend(input)),
+            "steps" => steps::compare_one(input, wall),
             _ => replies::compare_one(input, &mut self.walls),
         }
     }

@@ -1,16 +1,22 @@
-//! The exports of the static library `station`, under the feature of their group.
+//! The exports of the static library `station`, under the feature of their group, each as a function
+//! that lends slices to what include/station.rs declares.
 //!
 //! `bytes` is a slice that is read, `buffer` one that is written, `slots` a slice of numbers that
 //! are written. Each is lent as a pointer and a length.
 
-/// Declares each export as the library has it, and a function that lends slices to it.
+/// The declarations as any user in Rust takes them; some of the constants are not used here.
+#[allow(dead_code)]
+mod declared {
+    include!("../../../include/station.rs");
+}
+
+/// A function for each export. Not every program that takes this file calls all of them.
 macro_rules! exports {
     ($($group:literal: $($name:ident($($parameter:ident: $kind:ident),*);)*)*) => {
         $($(
             #[cfg(feature = $group)]
-            #[allow(clippy::too_many_arguments)]
+            #[allow(clippy::too_many_arguments, dead_code)]
             pub fn $name($($parameter: parameter!($kind)),*) -> i64 {
-                declare!($name [] $($kind)*);
                 lend!($name [] $($parameter: $kind,)*)
             }
         )*)*
@@ -32,27 +38,6 @@ macro_rules! parameter {
     };
 }
 
-/// The declaration in C's terms, one parameter after the other.
-macro_rules! declare {
-    ($name:ident [$($done:ty,)*] bytes $($rest:ident)*) => {
-        declare!($name [$($done,)* *const u8, usize,] $($rest)*);
-    };
-    ($name:ident [$($done:ty,)*] buffer $($rest:ident)*) => {
-        declare!($name [$($done,)* *mut u8, usize,] $($rest)*);
-    };
-    ($name:ident [$($done:ty,)*] slots $($rest:ident)*) => {
-        declare!($name [$($done,)* *mut u64, usize,] $($rest)*);
-    };
-    ($name:ident [$($done:ty,)*] $number:ident $($rest:ident)*) => {
-        declare!($name [$($done,)* $number,] $($rest)*);
-    };
-    ($name:ident [$($done:ty,)*]) => {
-        unsafe extern "C" {
-            fn $name($(_: $done),*) -> i64;
-        }
-    };
-}
-
 /// The call, one argument after the other.
 macro_rules! lend {
     ($name:ident [$($done:expr,)*] $slice:ident: bytes, $($rest:tt)*) => {
@@ -69,13 +54,16 @@ macro_rules! lend {
     };
     ($name:ident [$($done:expr,)*]) => {
         // SAFETY: each pointer goes with the length of the slice that is lent for the call.
-        unsafe { $name($($done),*) }
+        unsafe { declared::$name($($done),*) }
     };
 }
 
 exports! {
     "header":
     station_parse_header(header: bytes, out: slots);
+    station_write_header(
+        packet_type: u8, status: u8, length: u16, spid: u16, number: u8, window: u8, reply: buffer
+    );
 
     "text":
     station_is_whitespace(unit: u16);
@@ -98,6 +86,8 @@ exports! {
     station_build_query_result_with_extras(script: bytes, reply: buffer);
     station_room(script: bytes);
     station_fit(script: bytes, out: slots);
+    station_fresh(position: slots);
+    station_step(packet: bytes, position: slots, out: slots);
 
     "response":
     station_build_prelogin_response(reply: buffer);

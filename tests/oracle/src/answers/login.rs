@@ -11,8 +11,8 @@ use crate::utf16;
 pub const SLOTS: usize = 13;
 /// Workflow or classification version where there is none.
 const NO_BYTE: u64 = 256;
-/// The start of a part where there is none.
-const NO_START: u64 = 1 << 32;
+/// The start of a part where there is none: no text has it.
+const NO_START: u64 = u64::MAX;
 
 pub struct Login {
     pub fedauth: bool,

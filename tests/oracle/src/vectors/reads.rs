@@ -2,12 +2,12 @@
 
 use super::{Vectors, joined, print_line, print_read, words};
 use crate::answers::Part;
-use crate::answers::header::header;
+use crate::answers::header::{Fields, header, written};
 use crate::answers::login::{Login, login};
 use crate::answers::request::{batch, descriptor, fedauth, transaction};
 use crate::answers::text::{counts, is_whitespace};
 use crate::hex::{packed, unhex};
-use crate::inputs::header::random_header;
+use crate::inputs::header::{BYTES, NUMBERS, PACKET_TYPES, random_fields, random_header};
 use crate::inputs::login::{Feature, random_login, scattered_login, token_data};
 use crate::inputs::request::*;
 use crate::inputs::text::random_bytes;
@@ -17,6 +17,7 @@ use crate::utf16::{self, BLANK_UNITS, BORDER_UNITS};
 
 pub fn print(vectors: Vectors) {
     headers(vectors);
+    written_headers(vectors);
     white_space();
     texts(vectors);
     requests(vectors);
@@ -34,6 +35,26 @@ fn headers(vectors: Vectors) {
     cases.extend((0..8).map(|bit| vec![4, 1 << bit, 0, 24, 0, 0, 1, 0]));
     for input in vectors.inputs("header", cases, random_header) {
         print_read("parse_header", &input, header_words(&input));
+    }
+}
+
+/// Headers that are written: types that are known and others, the borders of each field, random ones.
+fn written_headers(vectors: Vectors) {
+    let reply = Fields { packet_type: 4, status: 1, length: 24, spid: 0, number: 1, window: 0 };
+    let mut cases: Vec<Fields> =
+        (0..=0x13).chain([0x80, 0xFF]).map(|packet_type| Fields { packet_type, ..reply }).collect();
+    for (place, byte) in BYTES.into_iter().enumerate() {
+        let other = BYTES[(place + 1) % BYTES.len()];
+        cases.push(Fields { status: byte, number: other, window: !other, ..reply });
+    }
+    for (place, number) in NUMBERS.into_iter().enumerate() {
+        let packet_type = PACKET_TYPES[place % PACKET_TYPES.len()];
+        cases.push(Fields { packet_type, length: number, spid: !number, ..reply });
+    }
+    let mut random = vectors.random("write_header");
+    cases.extend(std::iter::repeat_with(|| random_fields(&mut random)).take(vectors.count));
+    for fields in cases {
+        print_line("write_header", &fields.words(), &words(written(fields).map(|it| packed(&it))));
     }
 }
 

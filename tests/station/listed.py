@@ -1,0 +1,155 @@
+"""The list of calls and the Rust's answers (tests/vectors/list.txt) as lines for `calls`, with what must be printed.
+
+A case is a line and what its answer must be: a text, or a function that says of the answer printed whether it is right.
+Each line of the list becomes several: as it stands, and with lent slices that are exact, longer, one short, and empty.
+"""
+import re
+
+# The macro that counts the slots of `out`, for each export that has some.
+SLOTS = {
+    "parse_header": "HEADER", "text": "TEXT", "parse_sql_batch": "PART", "parse_fedauth_token": "PART",
+    "parse_transaction_descriptor_header": "DESCRIPTOR", "parse_login7": "LOGIN", "database": "PART", "fit": "FIT",
+}
+MISFITS = {"class": 1, "column": 2, "cell": 3}
+SPARE_ROOM = 32
+HEADER_BYTES = 8
+TOO_SHORT = "-20"
+
+
+def expanded(text):
+    """Hexadecimal digits, of runs `DIGITS*COUNT` joined by `,`."""
+    runs = (run.partition("*") for run in text.strip("-").split(","))
+    return "".join(digits * int(count or 1) for digits, _, count in runs) or "-"
+
+
+def slots(numbers):
+    return "o:" + ",".join(map(str, numbers))
+
+
+def sizes(needed):
+    """Sizes of a lent slice around the one that is needed: enough, then too few."""
+    return (needed, needed + 3), [size for size in {needed - 1, 0} if 0 <= size < needed]
+
+
+class Listed:
+    def __init__(self, functions, constants):
+        self.functions = functions
+        self.slots = {name: constants[f"STATION_{macro}_SLOTS"] for name, macro in SLOTS.items()}
+
+    def cases(self, text):
+        for line in text.splitlines():
+            if line and not line.startswith("#") and not line.startswith("tokens "):
+                given, _, answer = line.partition(" = ")
+                name, *arguments = given.split()
+                yield from self.of_line(name, arguments, answer)
+
+    def of_line(self, name, arguments, answer):
+        if f"station_{name}" not in self.functions:
+            yield f"{name}", "an export of the header"
+        elif name == "parse_login7":
+            yield from self.login(arguments, answer)
+        elif name == "database":
+            yield from self.database(*map(expanded, arguments), expanded(answer))
+        elif name in ("room", "fit", "parse_transaction_manager_request", "is_whitespace"):
+            yield from getattr(self, name)(expanded(arguments[0]), answer)
+        elif name in self.slots:
+            yield from self.numbers(name, expanded(arguments[0]), answer)
+        else:
+            yield from self.build(name, arguments, answer)
+
+    def numbers(self, name, given, answer):
+        """An export with an input and slots."""
+        enough, few = sizes(self.slots[name])
+        number, words = "0", answer.split()
+        if name == "parse_transaction_descriptor_header":
+            number = "1"
+        if answer == "none":
+            number, enough, few = "0", (*enough, *few), ()
+        told = f"{number} {slots(words[:self.slots[name]])}" if answer != "none" else number
+        refused = f"-{words[1]}" if words[0] == "refused" else None
+        for size in enough:
+            yield f"{name} i:{given} o:{size}", refused or told
+        for size in few:
+            yield f"{name} i:{given} o:{size}", refused or TOO_SHORT
+
+    def login(self, arguments, answer):
+        lent, body = int(arguments[0]), expanded(arguments[1])
+        enough, few = sizes(self.slots["parse_login7"])
+        if answer.startswith("refused"):
+            yield f"parse_login7 i:{body} d:{lent} o:{enough[0]}", f"-{answer.split()[1]}"
+            return
+        words = answer.split()
+        count, ids = int(words[enough[0]]), words[enough[0] + 1:]
+        held = f" d:{bytes(map(int, ids)).hex().upper()}" if ids else ""
+        for size in enough:
+            yield f"parse_login7 i:{body} d:{lent} o:{size}", f"{count}{held} {slots(words[:enough[0]])}"
+        for size in few:
+            yield f"parse_login7 i:{body} d:{lent} o:{size}", TOO_SHORT
+        if count:
+            yield f"parse_login7 i:{body} d:{count - 1} o:{enough[0]}", TOO_SHORT
+
+    def database(self, fallback, body, text):
+        def right(said):
+            found = re.fullmatch(r"([01]) o:([0-9]+),([0-9]+)", said)
+            if not found:
+                return False
+            which, start, length = map(int, found.groups())
+            held = (fallback if which else body).strip("-")
+            return held[2 * start:2 * (start + length)] == text.strip("-") and (not which or 2 * length == len(held))
+
+        yield f"database i:{body} i:{fallback} o:2", right
+        yield f"database i:{body} i:{fallback} o:1", TOO_SHORT
+        yield f"database i:{body} i:{fallback} o:0", TOO_SHORT
+
+    def room(self, script, answer):
+        def right(said):
+            return said.isdigit() and int(answer) <= int(said) <= int(answer) + SPARE_ROOM
+
+        yield f"room i:{script}", f"-{answer.split()[1]}" if answer.startswith("refused") else right
+
+    def fit(self, script, answer):
+        enough, few = sizes(self.slots["fit"])
+        if answer == "fits" or answer.startswith("refused"):
+            told = "0" if answer == "fits" else f"-{answer.split()[1]}"
+            for size in (*enough, *few):
+                yield f"fit i:{script} o:{size}", told
+            return
+        told = {f"1 {slots(misfit(words.split()))}" for words in answer.split(",")}
+        for size in enough:
+            yield f"fit i:{script} o:{size}", lambda said: said in told
+        for size in few:
+            yield f"fit i:{script} o:{size}", TOO_SHORT
+
+    def parse_transaction_manager_request(self, body, answer):
+        yield f"parse_transaction_manager_request i:{body}", answer.replace("refused ", "-")
+
+    def is_whitespace(self, unit, answer):
+        yield f"is_whitespace n:{int.from_bytes(bytes.fromhex(unit), 'little')}", answer
+
+    def build(self, name, arguments, answer):
+        """An export that writes to a buffer. The lines of a packet header do not say how many bytes are lent."""
+        lent, given = HEADER_BYTES, []
+        if name != "write_header":
+            lent, *arguments = int(arguments[0]), *arguments[1:]
+        for (_, kind), argument in zip(self.functions[f"station_{name}"], arguments):
+            given.append(f"i:{expanded(argument)}" if kind == "bytes" else f"n:{argument}")
+        call = " ".join([name, *given])
+        if answer.startswith("refused"):
+            yield f"{call} b:{lent}", f"-{answer.split()[1]}"
+            if answer != "refused 20":
+                yield f"{call} b:0", f"-{answer.split()[1]}"
+            return
+        held = expanded(answer)
+        enough, few = sizes(len(held) // 2)
+        for size in {lent, *enough}:
+            yield f"{call} b:{size}", f"{len(held) // 2} b:{held}"
+        for size in few:
+            yield f"{call} b:{size}", TOO_SHORT
+
+
+def misfit(words):
+    """The slots of a misfit: kind, set, row, column."""
+    kind, place, *rest = words
+    row = rest[0] if kind == "cell" else 0
+    column = rest[-1] if rest else 0
+    return MISFITS[kind], place, row, column

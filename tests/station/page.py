@@ -1,0 +1,70 @@
+"""What docs/EMBEDDING.md shows besides commands: its blocks in C and Rust are compiled and run, and the functions that
+the library calls from outside are those that the page names."""
+import re
+
+import compiled
+from compiled import LIBRARY, ROOT
+
+BLOCK = re.compile(r"^```(\w+)\n(.*?)^```$", re.M | re.S)
+# Each block of C in a program that says what it came to.
+LOGIN = """#include <stdio.h>
+#include "station.h"
+int main(void)
+{
+%s    return fwrite(packet, 1, length, stdout) == length ? 0 : 1;
+}
+"""
+READER = """#include <stdio.h>
+#include "station.h"
+static size_t tokens;
+static void use(const uint64_t *out) { tokens += out[STATION_STEP_KIND] != 0; }
+int main(void)
+{
+    static uint8_t packet[STATION_MOST_REPLY];
+    size_t length = fread(packet, 1, sizeof packet, stdin);
+%s    printf("%%d\\n", (int)tokens);
+    return 0;
+}
+"""
+LOGIN_HEADER, LOGIN_LENGTH = "0401006f00000100ad", 111
+
+
+def blocks(language):
+    text = (ROOT / "docs/EMBEDDING.md").read_text()
+    return [block for mark, block in BLOCK.findall(text) if mark == language]
+
+
+def c_program(folder, name, frame, block):
+    source = folder / f"{name}.c"
+    source.write_text(frame % "".join(f"    {line}\n" for line in block.splitlines()))
+    return compiled.program(folder, name, source)
+
+
+def compare_c(tally, folder):
+    records, login, reader = blocks("c")
+    helpers = (ROOT / "examples/recorder.c").read_text()
+    shown = "".join(f"    {line}\n" for line in records.splitlines())
+    tally.check(shown in helpers, "EMBEDDING: the first script is not that of examples/recorder.c")
+    packet = compiled.subprocess.run([c_program(folder, "login", LOGIN, login)], capture_output=True).stdout
+    tally.equal("EMBEDDING: a login's answer", (LOGIN_HEADER, LOGIN_LENGTH), (packet[:9].hex(), len(packet)))
+    program = c_program(folder, "tokens", READER, reader)
+    with (ROOT / "examples/two-sets.packet").open("rb") as packet:
+        found = compiled.run([program], stdin=packet).stdout
+    lines = (ROOT / "examples/two-sets.tokens.txt").read_text().splitlines()
+    tally.equal("EMBEDDING: the tokens that are read", f"{len(lines) - 1}\n", found)
+
+
+def compare_rust(tally, folder):
+    (block,) = blocks("rust")
+    source, program = folder / "page.rs", folder / "page"
+    source.write_text(block.replace('"include/station.rs"', f'"{ROOT / "include/station.rs"}"'))
+    linked = ["-L", LIBRARY.parent, "-l", "static=station", "-o", program]
+    done = compiled.run(["rustc", "--edition", "2021", "-D", "warnings", *linked, source])
+    tally.equal("EMBEDDING: the Rust program, compiled", "", done.stderr)
+    tally.check(program.exists() and compiled.run([program]).returncode == 0, "EMBEDDING: the Rust program fails")
+
+
+def compare_outside(tally):
+    called = set(re.findall(r"^ +U (\w+)$", compiled.run(["nm", "-u", LIBRARY]).stdout, re.M))
+    row = re.search(r"^\| from outside \| (.*?), nothing else", (ROOT / "docs/EMBEDDING.md").read_text(), re.M)
+    tally.equal("EMBEDDING: what is called from outside", sorted(called), sorted(re.findall(r"`(\w+)`", row[1])))
