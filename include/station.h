@@ -30,7 +30,7 @@ extern "C" {
 
 /* The version of these calls (CHANGELOG.md). An answer that changes changes the version. */
 #define STATION_VERSION_MAJOR 1
-#define STATION_VERSION_MINOR 0
+#define STATION_VERSION_MINOR 1
 
 /* The most bytes of a reply: a `buf` of so many is never too short. */
 #define STATION_MOST_REPLY 65535
@@ -48,6 +48,9 @@ extern "C" {
 #define STATION_HEADER_TOO_SHORT 8     /* a packet header has under 8 bytes */
 #define STATION_UNKNOWN_PACKET_TYPE 9  /* the type of a packet is unknown */
 #define STATION_NO_TRANSACTION_TYPE 10 /* a transaction request has no type */
+#define STATION_CALL_CUT 29            /* the headers, the procedure or the flags of a procedure call are cut */
+#define STATION_PARAMETER_CUT 30       /* a parameter is cut, its value's length wrong, or sp_executesql has none */
+#define STATION_PARAMETER_NOT_READ 31  /* a parameter's type is not read, it is encrypted, or a second call follows */
 
 /* caused by the author of a script or of a list of records */
 #define STATION_RECORD_CUT 11      /* a record is cut */
@@ -170,6 +173,45 @@ int64_t station_parse_transaction_descriptor_header(const uint8_t *body, size_t 
  * -5 under 8 bytes, -6 a wrong outer length, -7 a wrong inner length.
  */
 int64_t station_parse_fedauth_token(const uint8_t *payload, size_t payload_len, uint64_t *out, size_t out_len);
+
+/* The slots of a procedure call; a part is one of the body. Slots that do not apply are 0. */
+#define STATION_RPC_SLOTS 19
+#define STATION_RPC_NAMED 0 /* 1: the procedure is called by its name; 0: by its number */
+#define STATION_RPC_NAME_START 1
+#define STATION_RPC_NAME_LENGTH 2
+#define STATION_RPC_NUMBER 3
+#define STATION_RPC_FLAGS 4
+#define STATION_RPC_STATEMENT_START 5 /* of STATION_RPC_EXECUTESQL; or STATION_NO_PART, and then its length is 0 */
+#define STATION_RPC_STATEMENT_LENGTH 6
+#define STATION_RPC_FOUND 7 /* 1: there is a parameter of the number that was asked for; 0: none, and all below is 0 */
+#define STATION_RPC_PARAMETER_NAME_START 8
+#define STATION_RPC_PARAMETER_NAME_LENGTH 9
+#define STATION_RPC_PARAMETER_STATUS 10
+#define STATION_RPC_PARAMETER_CODE 11   /* 26, E7, A7 or A5 */
+#define STATION_RPC_PARAMETER_LENGTH 12 /* of a value, or its most bytes; FFFF: Max */
+#define STATION_RPC_PARAMETER_COLLATION_START 13
+#define STATION_RPC_PARAMETER_COLLATION_LENGTH 14
+#define STATION_RPC_VALUE_CASE 15   /* STATION_CASE_NULL, _NUMBER, _PART or _MAX, as of a cell */
+#define STATION_RPC_VALUE_NUMBER 16 /* the bits of an int64_t */
+#define STATION_RPC_VALUE_START 17
+#define STATION_RPC_VALUE_LENGTH 18
+
+/* The procedure whose first parameter is a statement to run: sp_executesql. */
+#define STATION_RPC_EXECUTESQL 10
+
+/* Bits of a parameter's status. */
+#define STATION_PARAMETER_BY_REFERENCE 0x01
+#define STATION_PARAMETER_DEFAULT 0x02
+
+/* A stored procedure call, and its parameter of a number, from 0. The number changes the slots of the parameter alone:
+ * ask for 0, 1, .. until FOUND is 0. Of sp_executesql the statement is the value's bytes of parameter 0, as they stand:
+ * of a Max value its chunks, from the first length through the zero one; of null no bytes.
+ * 0: the call's slots.
+ * -29 headers, procedure or flags cut, -30 a parameter cut, a wrong length in its value, or sp_executesql without a
+ * parameter, -31 a type that is not read, an encrypted parameter, or a second call.
+ */
+int64_t station_parse_rpc_request(const uint8_t *body, size_t body_len, uint64_t number, uint64_t *out,
+                                  size_t out_len);
 
 /* The slots of a login; a part is one of the body. */
 #define STATION_LOGIN_SLOTS 13

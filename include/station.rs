@@ -9,7 +9,7 @@
 // call is unsafe, because nothing checks that a pointer is valid for the length that follows it.
 
 pub const STATION_VERSION_MAJOR: u32 = 1;
-pub const STATION_VERSION_MINOR: u32 = 0;
+pub const STATION_VERSION_MINOR: u32 = 1;
 pub const STATION_MOST_REPLY: usize = 65535;
 
 // ---- Refusals
@@ -24,6 +24,9 @@ pub const STATION_INNER_LENGTH: i64 = 7;
 pub const STATION_HEADER_TOO_SHORT: i64 = 8;
 pub const STATION_UNKNOWN_PACKET_TYPE: i64 = 9;
 pub const STATION_NO_TRANSACTION_TYPE: i64 = 10;
+pub const STATION_CALL_CUT: i64 = 29;
+pub const STATION_PARAMETER_CUT: i64 = 30;
+pub const STATION_PARAMETER_NOT_READ: i64 = 31;
 
 pub const STATION_RECORD_CUT: i64 = 11;
 pub const STATION_KIND_WRONG: i64 = 12;
@@ -88,6 +91,32 @@ pub const STATION_TRANSACTION_ROLLBACK: u16 = 8;
 pub const STATION_DESCRIPTOR_SLOTS: usize = 2;
 pub const STATION_DESCRIPTOR_TRANSACTION: usize = 0;
 pub const STATION_DESCRIPTOR_COUNT: usize = 1;
+
+pub const STATION_RPC_SLOTS: usize = 19;
+pub const STATION_RPC_NAMED: usize = 0;
+pub const STATION_RPC_NAME_START: usize = 1;
+pub const STATION_RPC_NAME_LENGTH: usize = 2;
+pub const STATION_RPC_NUMBER: usize = 3;
+pub const STATION_RPC_FLAGS: usize = 4;
+pub const STATION_RPC_STATEMENT_START: usize = 5;
+pub const STATION_RPC_STATEMENT_LENGTH: usize = 6;
+pub const STATION_RPC_FOUND: usize = 7;
+pub const STATION_RPC_PARAMETER_NAME_START: usize = 8;
+pub const STATION_RPC_PARAMETER_NAME_LENGTH: usize = 9;
+pub const STATION_RPC_PARAMETER_STATUS: usize = 10;
+pub const STATION_RPC_PARAMETER_CODE: usize = 11;
+pub const STATION_RPC_PARAMETER_LENGTH: usize = 12;
+pub const STATION_RPC_PARAMETER_COLLATION_START: usize = 13;
+pub const STATION_RPC_PARAMETER_COLLATION_LENGTH: usize = 14;
+pub const STATION_RPC_VALUE_CASE: usize = 15;
+pub const STATION_RPC_VALUE_NUMBER: usize = 16;
+pub const STATION_RPC_VALUE_START: usize = 17;
+pub const STATION_RPC_VALUE_LENGTH: usize = 18;
+
+pub const STATION_RPC_EXECUTESQL: u64 = 10;
+
+pub const STATION_PARAMETER_BY_REFERENCE: u64 = 0x01;
+pub const STATION_PARAMETER_DEFAULT: u64 = 0x02;
 
 pub const STATION_LOGIN_SLOTS: usize = 13;
 pub const STATION_LOGIN_FEDAUTH: usize = 0;
@@ -249,6 +278,13 @@ unsafe extern "C" {
     pub fn station_parse_fedauth_token(
         payload: *const u8,
         payload_len: usize,
+        out: *mut u64,
+        out_len: usize,
+    ) -> i64;
+    pub fn station_parse_rpc_request(
+        body: *const u8,
+        body_len: usize,
+        number: u64,
         out: *mut u64,
         out_len: usize,
     ) -> i64;

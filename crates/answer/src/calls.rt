@@ -1,6 +1,7 @@
 // The calls, a function each: it gets the input, puts its lines to out from at on, and answers the place after them.
 use crate::lines;
 use crate::logins;
+use crate::procedures;
 use crate::replies;
 use crate::requests;
 use crate::scripts;
@@ -18,6 +19,7 @@ pub(crate) enum Call {
     Descriptor,
     FedAuth,
     Login,
+    Rpc,
     Tokens,
     Places,
     Unknown,
@@ -55,6 +57,9 @@ pub(crate) fn named(argument: usize) -> Call {
     if check::same(word, b"login") {
         return Call::Login;
     }
+    if check::same(word, b"rpc") {
+        return Call::Rpc;
+    }
     if check::same(word, b"tokens") {
         return Call::Tokens;
     }
@@ -76,6 +81,7 @@ pub(crate) fn answer(call: Call, input: &[u8], out: &mut [u8], at: usize) -> usi
         Call::Descriptor => requests::descriptor(input, out, at),
         Call::FedAuth => requests::fedauth(input, out, at),
         Call::Login => logins::answer(input, out, at),
+        Call::Rpc => procedures::answer(input, out, at),
         Call::Tokens => replies::answer(input, false, out, at),
         Call::Places => replies::answer(input, true, out, at),
         Call::Unknown => at,

@@ -57,6 +57,11 @@ pub(crate) fn bytes(out: &mut [u8], at: usize, s: &[u8]) -> usize {
     digits(out, at, s)
 }
 
+// A number of two bytes as four digits, after a space.
+pub(crate) fn word(out: &mut [u8], at: usize, n: u16) -> usize {
+    bytes(out, at, &[(n / 256) as u8, (n % 256) as u8])
+}
+
 // Bytes in upper-case hexadecimal.
 pub(crate) fn digits(out: &mut [u8], from: usize, s: &[u8]) -> usize {
     let mut at = from;
@@ -100,6 +105,24 @@ pub(crate) fn number_line(out: &mut [u8], at: usize, word: &[u8], n: u64) -> usi
 // A line of a word and a part.
 pub(crate) fn part_line(out: &mut [u8], at: usize, word: &[u8], place: Part) -> usize {
     let at = part(out, at, word, place);
+    end(out, at)
+}
+
+// A word, and a part of some bytes with what stands in it.
+pub(crate) fn held(out: &mut [u8], at: usize, word: &[u8], source: &[u8], place: Part) -> usize {
+    let at = part(out, at, word, place);
+    bytes(out, at, wire::part_of(source, place))
+}
+
+// A line of these.
+pub(crate) fn held_line(
+    out: &mut [u8],
+    at: usize,
+    word: &[u8],
+    source: &[u8],
+    place: Part,
+) -> usize {
+    let at = held(out, at, word, source, place);
     end(out, at)
 }
 

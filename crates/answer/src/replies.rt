@@ -55,7 +55,7 @@ fn token_line(packet: &[u8], places: bool, token: Token, out: &mut [u8], at: usi
         } => {
             let at = lines::text(out, at, b"col");
             let at = lines::number(out, at, user_type as u64);
-            let at = word(out, at, flags);
+            let at = lines::word(out, at, flags);
             let at = lines::bytes(out, at, &[code]);
             let at = lines::number(out, at, limit as u64);
             two_parts(packet, places, collation, name, out, at)
@@ -89,8 +89,8 @@ fn token_line(packet: &[u8], places: bool, token: Token, out: &mut [u8], at: usi
 // FD STATUS COMMAND COUNT
 fn done_line(status: u16, command: u16, count: u64, out: &mut [u8], at: usize) -> usize {
     let at = lines::text(out, at, b"FD");
-    let at = word(out, at, status);
-    let at = word(out, at, command);
+    let at = lines::word(out, at, status);
+    let at = lines::word(out, at, command);
     let at = lines::number(out, at, count);
     lines::end(out, at)
 }
@@ -105,7 +105,13 @@ fn message_kind(out: &mut [u8], at: usize, kind: u8) -> usize {
 }
 
 // num N, part HEX, or null
-fn cell_line(packet: &[u8], places: bool, value: Value, out: &mut [u8], at: usize) -> usize {
+pub(crate) fn cell_line(
+    packet: &[u8],
+    places: bool,
+    value: Value,
+    out: &mut [u8],
+    at: usize,
+) -> usize {
     match value {
         Value::Number(n) => {
             let at = lines::text(out, at, b"num");
@@ -142,11 +148,6 @@ fn magnitude(n: i64) -> u64 {
     } else {
         ((0 - (n + 1)) as u64) + 1
     }
-}
-
-// A number as four digits, after a space.
-fn word(out: &mut [u8], at: usize, n: u16) -> usize {
-    lines::bytes(out, at, &[(n / 256) as u8, (n % 256) as u8])
 }
 
 // The two parts that a line ends with.

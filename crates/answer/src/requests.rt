@@ -4,20 +4,13 @@ use request::Batch;
 use request::Descriptor;
 use request::FedAuthToken;
 use request::TransactionRequest;
-use wire::Part;
 
 // text START LENGTH HEX
 pub(crate) fn batch(input: &[u8], out: &mut [u8], at: usize) -> usize {
     match request::parse_sql_batch(input) {
-        Batch::Text(part) => text_line(input, part, out, at),
+        Batch::Text(part) => lines::held_line(out, at, b"text", input, part),
         Batch::Refused(number) => lines::refused(out, at, number),
     }
-}
-
-fn text_line(input: &[u8], part: Part, out: &mut [u8], at: usize) -> usize {
-    let at = lines::part(out, at, b"text", part);
-    let at = lines::bytes(out, at, wire::part_of(input, part));
-    lines::end(out, at)
 }
 
 // type N

@@ -4,3 +4,4 @@ pub mod CodeReads
 pub mod CodeTypes
 pub mod CodeSigns
 pub mod CodeChunks
+pub mod Inside

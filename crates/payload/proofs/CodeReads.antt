@@ -111,11 +111,11 @@ below-more j k l (number.Refused r) h = tt
 pub clash {ℓ} : {X : Type ℓ} → _≡_ {A = ℕ} 0 1 → X
 clash z = absurd (omega arith)
 
-number-is : (x : Read ℕ) {r : NumberRead} {n : NumberAt} → r ≡ numberRead x → r ≡ number.Whole n → x ≡ whole (n .value) (n .next)
+pub number-is : (x : Read ℕ) {r : NumberRead} {n : NumberAt} → r ≡ numberRead x → r ≡ number.Whole n → x ≡ whole (n .value) (n .next)
 number-is (whole v to) {n = n} e f = let q : n ≡ record { value = v; next = to } = cc in rw q
 number-is (refused m) e f = clash (cc)
 
-number-is-not : (x : Read ℕ) {r : NumberRead} {m : ℕ} → r ≡ numberRead x → r ≡ number.Refused m → x ≡ refused m
+pub number-is-not : (x : Read ℕ) {r : NumberRead} {m : ℕ} → r ≡ numberRead x → r ≡ number.Refused m → x ≡ refused m
 number-is-not (whole v to) e f = clash (cc)
 number-is-not (refused n) e f = cc
 

@@ -1,3 +1,4 @@
 pub mod Standing
 pub mod CodeReads
 pub mod CodeNumbers
+pub mod Each

@@ -44,6 +44,18 @@ unknownPacketType = 9
 abbrev pub noTransactionType : ℕ
 noTransactionType = 10
 
+-- the headers, the procedure or the flags of a procedure call are cut
+abbrev pub callCut : ℕ
+callCut = 29
+
+-- a parameter of a procedure call is cut, its value has a wrong length, or sp_executesql has none
+abbrev pub parameterCut : ℕ
+parameterCut = 30
+
+-- a parameter's type is not read, it is encrypted, or a second call follows
+abbrev pub parameterNotRead : ℕ
+parameterNotRead = 31
+
 -- ---- Script's author
 
 -- a record is cut

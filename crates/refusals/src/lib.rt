@@ -36,6 +36,15 @@ pub const UNKNOWN_PACKET_TYPE: u8 = 9;
 // A transaction request has no type.
 pub const NO_TRANSACTION_TYPE: u8 = 10;
 
+// The headers, the procedure or the flags of a procedure call are cut.
+pub const CALL_CUT: u8 = 29;
+
+// A parameter of a procedure call is cut, its value has a wrong length, or sp_executesql has none.
+pub const PARAMETER_CUT: u8 = 30;
+
+// A parameter's type is not read, it is encrypted, or a second call follows.
+pub const PARAMETER_NOT_READ: u8 = 31;
+
 // ---- Script's author
 
 // A record is cut.

@@ -2,6 +2,7 @@
 use crate::builds;
 use crate::headers;
 use crate::logins;
+use crate::procedures;
 use crate::replies;
 use crate::requests;
 use crate::scripts;
@@ -20,7 +21,7 @@ pub(crate) fn holds(line: &[u8]) -> bool {
         return headers::holds(line);
     }
     let mut input = spaces::zeros();
-    if check::same(name, b"parse_login7") {
+    if follows_number(name) {
         let n = words::bytes_at(line, 2, &mut input);
         return told_holds(line, name, wire::part_of(&input, first(n)));
     }
@@ -30,6 +31,11 @@ pub(crate) fn holds(line: &[u8]) -> bool {
     }
     let n = words::bytes_at(line, 1, &mut input);
     told_holds(line, name, wire::part_of(&input, first(n)))
+}
+
+// Whether a number stands between the name of a call and its input.
+fn follows_number(name: &[u8]) -> bool {
+    check::same(name, b"parse_login7") | check::same(name, b"parse_rpc_request")
 }
 
 // The same of a call whose answer is words.
@@ -52,6 +58,9 @@ fn tell(line: &[u8], name: &[u8], input: &[u8], out: &mut [u8]) -> usize {
     }
     if check::same(name, b"parse_login7") {
         return logins::parse(line, input, out);
+    }
+    if check::same(name, b"parse_rpc_request") {
+        return procedures::parse(line, input, out);
     }
     tell_request(name, input, out)
 }

@@ -5,6 +5,7 @@ mod builds;
 mod calls;
 mod headers;
 mod logins;
+mod procedures;
 mod replies;
 mod requests;
 mod runs;

@@ -103,7 +103,7 @@ fn tell_kind(kind: u8, out: &mut [u8], at: usize) -> usize {
 }
 
 // num N, part START LENGTH, max START LENGTH of a Max part, or null
-fn tell_cell(value: Value, out: &mut [u8], at: usize) -> usize {
+pub(crate) fn tell_cell(value: Value, out: &mut [u8], at: usize) -> usize {
     match value {
         Value::Number(n) => {
             let at = told::word(out, at, b"num");

@@ -6,3 +6,4 @@ pub mod Results
 pub mod Builds
 pub mod Steps
 pub mod Stepping
+pub mod Procedures

@@ -351,7 +351,7 @@ fn tell_message(
 }
 
 // The 64 bits of a number, in two's complement.
-fn bits(n: i64) -> u64
+pub(crate) fn bits(n: i64) -> u64
     ensures { λ r. ⌜ r ≡ bitsOf n ⌝ }
 {
     if n >= 0 {

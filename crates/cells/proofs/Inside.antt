@@ -1,0 +1,107 @@
+-- A type and a cell that are read lie in the packet, and so do their parts. Assumes nothing.
+use mathlib.Core.Path.{_≡_}
+use mathlib.Core.Bool.{Bool, cond, not, _&&_, _||_}
+use mathlib.Core.List.{List}
+use Prim.Native.Nat.{ℕ, zero, suc, _+_, _-_, _≤_, _<_}
+use native.Mathlib.Omega.{arith}
+use lib.Dec.{eqb, leb}
+use lib.ListN.{length, drop}
+use Rattle.wire.specs.Le.{leAt}
+use Rattle.wire.specs.declared.Part.{Part}
+use Rattle.wire.specs.Even.{even}
+use Rattle.token.specs.Types.{lengthWidth, collationSize}
+use Rattle.payload.specs.Places.{Place, Read, whole, refused, numberAt, partAt, must, then, partTo}
+use Rattle.payload.proofs.Each.{Each, got, none, cond-each, must-each, number-each, part-each, then-each, each-more}
+use Rattle.cells.specs.declared.TypeInfo.{TypeInfo}
+use Rattle.cells.specs.declared.Value.{Value}
+use Rattle.cells.specs.declared.Value.the-variants as value
+use Rattle.cells.specs.Cells.{isCode, isType, typeAt, integerAt, boundedAt, isChunk, isLast, chunkAt, chunksAt, maxAt, cellAt}
+
+-- a part ends within so many bytes
+abbrev pub Ends : ℕ → Part → Type 0
+Ends n p = p .start + p .len ≤ n
+
+abbrev pub ValueEnds : ℕ → Value → Type 0
+ValueEnds n (value.Number z) = Unit {0}
+ValueEnds n (value.Part p) = Ends n p
+ValueEnds n (value.Max p) = Ends n p
+ValueEnds n value.Null = Unit {0}
+
+module _ (p : List ℕ) where
+  -- what is read from a place on ends after it, and within the packet
+  abbrev pub Onward : Place → Place → Type 0
+  Onward at to = (at < to) × (to ≤ length p)
+
+  abbrev OnwardOf : Place → ℕ → Place → Type 0
+  OnwardOf at n to = Onward at to
+
+  abbrev ChunksIn : Place → Part → Place → Type 0
+  ChunksIn at q to = Onward at to × Ends (length p) q
+
+  abbrev pub TypeIn : Place → TypeInfo → Place → Type 0
+  TypeIn at t to = Onward at to × Ends (length p) (t .collation)
+
+  abbrev pub ValueIn : Place → Value → Place → Type 0
+  ValueIn at v to = Onward at to × ValueEnds (length p) v
+
+  pub type-in : (at : Place) → Each (TypeIn at) (typeAt p at)
+  unfolding typeAt
+  type-in at =
+      number-each _ 1 p at _ (λ h1.
+      must-each _ _ _ _ (λ e.
+      number-each _ _ p (at + 1) _ (λ h2.
+      must-each _ _ _ _ (λ e.
+      part-each _ _ p _ _ (λ h3.
+      got ((omega arith, h3), h3))))))
+
+  integer-in : (limit : ℕ) (at : Place) → Each (ValueIn at) (integerAt limit p at)
+  unfolding integerAt
+  integer-in limit at =
+      number-each _ 1 p at _ (λ h1.
+      cond-each _ (eqb (leAt 1 (drop at p)) 0) _ _ (λ e. got ((omega arith, h1), tt)) (λ e.
+      must-each _ _ _ _ (λ e.
+      number-each _ _ p (at + 1) _ (λ h2.
+      got ((omega arith, h2), tt)))))
+
+  bounded-in : (limit : ℕ) (at : Place) → Each (ValueIn at) (boundedAt limit p at)
+  unfolding boundedAt
+  bounded-in limit at =
+      number-each _ 2 p at _ (λ h1.
+      cond-each _ (eqb (leAt 2 (drop at p)) 0xFFFF) _ _ (λ e. got ((omega arith, h1), tt)) (λ e.
+      must-each _ _ _ _ (λ e.
+      part-each _ _ p (at + 2) _ (λ h2.
+      got ((omega arith, h2), h2)))))
+
+  module _ (text known : Bool) where
+    chunk-in : (left : ℕ) (at : Place) → Each (OnwardOf at) (chunkAt text known p left at)
+    unfolding chunkAt
+    chunk-in left at =
+        number-each _ 4 p at _ (λ h1.
+        cond-each _ (eqb (leAt 4 (drop at p)) 0) _ _
+        (λ e. must-each _ _ _ _ (λ e. got (omega arith, h1)))
+        (λ e. must-each _ _ _ _ (λ e. part-each _ _ p (at + 4) _ (λ h2. got (omega arith, h2)))))
+
+    chunks-in : (turns : ℕ) (start : Place) (left : ℕ) (at : Place) → start ≤ at → Each (ChunksIn at) (chunksAt turns text known p start left at)
+    unfolding chunksAt
+    chunks-in zero start left at h = none
+    chunks-in (suc turns) start left at h =
+        then-each (OnwardOf at) _ (chunkAt text known p left at) _ (chunk-in left at) (λ n to i.
+        cond-each _ (eqb n 0) _ _
+        (λ e. got (i, omega arith))
+        (λ e. each-more (ChunksIn to) _ _ (λ q end j. ((omega arith, j .0 .1), j .1)) (chunks-in turns start (left - n) to (omega arith))))
+
+  max-in : (text : Bool) (at : Place) → Each (ValueIn at) (maxAt text p at)
+  unfolding maxAt
+  max-in text at =
+      number-each _ 8 p at _ (λ h1.
+      cond-each _ (eqb (leAt 8 (drop at p)) 0xFFFFFFFFFFFFFFFF) _ _ (λ e. got ((omega arith, h1), tt)) (λ e.
+      must-each _ _ _ _ (λ e.
+      then-each (ChunksIn (at + 8)) _ _ _ (chunks-in text _ _ (at + 8) _ (at + 8) (omega arith)) (λ q to i.
+      got ((omega arith, i .0 .1), i .1)))))
+
+  pub cell-in : (code limit : ℕ) (at : Place) → Each (ValueIn at) (cellAt code limit p at)
+  unfolding cellAt
+  cell-in code limit at =
+      must-each _ _ _ _ (λ e.
+      cond-each _ (eqb code 0x26) _ _ (λ e. integer-in limit at) (λ e.
+      cond-each _ (eqb limit 0xFFFF) _ _ (λ e. max-in _ at) (λ e. bounded-in limit at)))

@@ -1,0 +1,6 @@
+pub mod Told
+pub mod Inside
+pub mod Walk
+pub mod Alone
+pub mod Calls
+pub mod Worked

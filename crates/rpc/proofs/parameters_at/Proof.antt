@@ -1,0 +1,66 @@
+-- `rpc::parameters_at` meets its contract. The loop's invariant: the parameters up to the place were passed, and what is left of the
+-- parameters is read from there. The measure is what is left of the body. Assumes nothing.
+use Rattle.rpc.proofs.Told.{parameter-told}
+use Rattle.rpc.proofs.Inside.{parameter-onward}
+use Rattle.rpc.proofs.Walk.{Walked, begins, moves, stops, falls}
+use Prim.Native.Nat.{ℕ, suc, _+_, _-_, _*_, _≤_, _<_}
+use mathlib.Core.Path.{_≡_, refl, sym, ap, _∙_}
+use lib.ListN.{length, take, drop, getD}
+use native.Mathlib.Omega.{arith}
+use borrow.Author.Needs.{needs}
+use denote.Ref.{now}
+use Rattle.rpc.proofs.parameters_at.Statement.{statement}
+use Rattle.rpc.proofs.parameters_at.Tie as tie
+
+abbrev Inv-loop : tie.InvT-loop
+Inv-loop body start number at₀ count₀ seen₀ at count seen = Walked body start number at count seen
+
+abbrev μ-loop : tie.MeasureT-loop
+μ-loop body start number at₀ count₀ seen₀ at count seen = length body - at
+
+loop-holds : tie.Need-loop-holds Inv-loop μ-loop
+loop-holds c = begins (now (c .before .args .body)) (c .before .args .start) (c .before .args .number)
+
+parameter-at-requires : tie.Need-parameter-at-requires Inv-loop μ-loop
+parameter-at-requires c κs = search needs
+
+enum-known-n : tie.Need-enum-known-n Inv-loop μ-loop
+enum-known-n c = search needs
+
+returns : tie.Need-returns Inv-loop μ-loop
+returns c = falls (now (c .before .before .before .before .before .before .before .args .body)) (c .before .before .before .before .before .before .before .args .start) (c .before .before .before .before .before .before .before .args .number) (c .before .before .before .before .before .loop .inv) _ (omega arith) (parameter-told _ (c .before .before .before .parameter-at .ensures) (c .before .n .given .1))
+
+enum-known-read : tie.Need-enum-known-read Inv-loop μ-loop
+enum-known-read c = search needs
+
+seen-with-requires : tie.Need-seen-with-requires Inv-loop μ-loop
+seen-with-requires c κs = search needs
+
+add-count : tie.Need-add-count Inv-loop μ-loop
+add-count c = omega (arith, c .before .before .before .before .before .before .loop .inv .below)
+
+loop-less : tie.Need-loop-less Inv-loop μ-loop
+loop-less c = let onto = parameter-onward (now (c .before .before .before .before .before .before .before .before .args .body)) (c .before .before .before .before .before .before .loop .at) (parameter-told _ (c .before .before .before .before .parameter-at .ensures) (c .before .before .read .given .1)) in omega arith
+
+loop-again : tie.Need-loop-again Inv-loop μ-loop
+loop-again c = rw (c .seen-with .ensures) (moves (now (c .before .before .before .before .before .before .before .before .args .body)) (c .before .before .before .before .before .before .before .before .args .start) (c .before .before .before .before .before .before .before .before .args .number) (c .before .before .before .before .before .before .loop .inv) (c .before .before .read .given .0 .0) (omega arith) (parameter-told _ (c .before .before .before .before .parameter-at .ensures) (c .before .before .read .given .1)))
+
+returns-2 : tie.Need-returns-2 Inv-loop μ-loop
+returns-2 c = stops (now (c .before .before .before .args .body)) (c .before .before .before .args .start) (c .before .before .before .args .number) (c .before .loop .inv) (omega arith)
+
+pub parameters-at-spec : {M : Type 1} → statement M
+parameters-at-spec =
+    tie.close
+    (tie.spec
+    Inv-loop
+    μ-loop
+    loop-holds
+    parameter-at-requires
+    enum-known-n
+    returns
+    enum-known-read
+    seen-with-requires
+    add-count
+    loop-less
+    loop-again
+    returns-2)

@@ -1,0 +1,5 @@
+pub mod Rpc
+pub mod Answers
+pub mod Alone
+pub mod Inside
+pub mod Worked
