@@ -16,6 +16,7 @@ EXPORTS = {
     "request": "station_parse_sql_batch",
     "login": "station_parse_login7",
     "result": "station_build_query_results",
+    "rpc": "station_parse_rpc_request",
 }
 HEADS = ["case", "input", "reply", "ours", "Rust", "ours/Rust", "ours µs", "Rust µs", "ours/Rust", "ours/byte",
          "Rust/byte"]

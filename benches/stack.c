@@ -10,7 +10,7 @@
 
 #include "station.h"
 
-enum { STACK = 8192, PUSHED = 48, MOST_ARGUMENTS = 12, INPUT = 4096 };
+enum { STACK = 8192, PUSHED = 48, MOST_ARGUMENTS = 12, MOST_SLOTS = STATION_RPC_SLOTS, INPUT = 4096 };
 
 /* Calls a function on another stack: its first six arguments in registers and the other six, PUSHED bytes, at `top`. */
 int64_t call_on(void *top, void (*function)(void), const uint64_t *arguments);
@@ -56,6 +56,7 @@ static struct export exports[] = {
     EXPORT(station_parse_transaction_manager_request, "i"),
     EXPORT(station_parse_transaction_descriptor_header, "io"),
     EXPORT(station_parse_fedauth_token, "io"),
+    EXPORT(station_parse_rpc_request, "ino"),
     EXPORT(station_parse_login7, "ido"),
     EXPORT(station_database, "ito"),
     EXPORT(station_build_query_results, "ib"),
@@ -97,7 +98,7 @@ static const uint8_t TEXT[] = {0x61, 0x00, 0xE9, 0x00, 0xAC, 0x20, 0x3D, 0xD8, 0
 
 static _Alignas(16) uint8_t stack[STACK];
 static uint8_t buffer[65535], ids[65535];
-static uint64_t slots[STATION_LOGIN_SLOTS], position[STATION_POSITION_SLOTS];
+static uint64_t slots[MOST_SLOTS], position[STATION_POSITION_SLOTS];
 
 static void lend(uint64_t *arguments, size_t *count, const void *place, size_t length)
 {
@@ -116,7 +117,7 @@ static void fill(uint64_t *arguments, const char *parameters, const uint8_t *inp
         case 't': lend(arguments, &count, TEXT, sizeof TEXT); break;
         case 'b': lend(arguments, &count, buffer, room ? sizeof buffer : 0); break;
         case 'd': lend(arguments, &count, ids, room ? sizeof ids : 0); break;
-        case 'o': lend(arguments, &count, slots, room ? STATION_LOGIN_SLOTS : 0); break;
+        case 'o': lend(arguments, &count, slots, room ? MOST_SLOTS : 0); break;
         case 'p': lend(arguments, &count, position, room ? STATION_POSITION_SLOTS : 0); break;
         case 'f': arguments[count++] = number & 1; break;
         case 'c': arguments[count++] = number & 0xFF; break;

@@ -16,8 +16,9 @@ Pointing at bytes, or going to them with the Tab key, shows which field they are
 --pcap makes a capture: a connection to port 1433, with requests from the client and replies from the server.
 
 A line `# wrong` says what is wrong about the line before it; bytes that cannot be told apart are shown as they are.
-Where the reply reader refuses a reply, a line says so, with the refusal and the byte at fault, counted from 0 in the
-packet. The refusal is what `target/bin/answer tokens` answers; without that program the line is left out.
+Where a reply or a stored procedure call is refused, a line says so, with the refusal and the byte at fault, counted from
+0 in the packet. The refusal is what `target/bin/answer tokens` or `answer rpc` answers; without that program the line is
+left out.
 
 The exit status is 0, or 1 where a file cannot be read or written, or 2 where the arguments are wrong.
 """
@@ -41,14 +42,15 @@ ANSWER = pathlib.Path(__file__).resolve().parent.parent / "target/bin/answer"
 USAGE = "usage: tools/layout.py [--html|--pcap] [-o OUT] PACKET, or --help"
 COMMENT_AT, WIDEST = 52, 120
 CONTINUED = 4  # the indent of a line that continues another
+READERS = {packets.REPLY_READER: "the reply reader", packets.CALL_READER: "the call reader"}
 
 
 def refusal(packet):
-    """The reply reader's refusal of a packet, by the program `answer`; None where there is none, or no program."""
-    if not packet.judged:
+    """The refusal of a packet, by the program `answer`; None where there is none, or no program."""
+    if packet.reader is None:
         return None
     try:
-        done = running.run([ANSWER, "tokens"], packet.held, timeout=60)
+        done = running.run([ANSWER, packet.reader], packet.given, timeout=60)
     except (OSError, subprocess.TimeoutExpired):
         return None
     word, _, number = done.stdout.decode(errors="replace").rstrip("\n").rpartition("\n")[2].partition(" ")
@@ -58,7 +60,7 @@ def refusal(packet):
 def refused(packet, number):
     """The sentence about a refusal, and the place it stands at."""
     place = next((fault.place for fault in packet.faults if fault.number), len(packet.held))
-    return place, f"the reply reader stops at byte {place}: refused {number}, {reasons.cause(number)}"
+    return place, f"{READERS[packet.reader]} stops at byte {place}: refused {number}, {reasons.cause(number)}"
 
 
 def said(packet, number):

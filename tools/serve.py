@@ -1,5 +1,5 @@
 #!/usr/bin/env python3
-"""A unit to connect to: answers TDS clients on 127.0.0.1, each batch with the reply of a script.
+"""A unit to connect to: answers TDS clients on 127.0.0.1, each batch and each call with the reply of a script.
 
     tools/serve.py [--port N] [--journal FILE] [--capture FILE] [--route] [--counted] SCRIPT..
 
@@ -17,8 +17,10 @@ Which script answers a batch:
 - else the one that the text names: as `script N`, counted from 0 as given, or by the file's name without its ending, as
   in `select * from one-row`;
 - else the only one, where one is served.
-A batch that no script answers gets a set without columns. A request that is refused, or of a type that is not answered
-here (stored procedure calls, bulk loads), ends its connection.
+A stored procedure call (RPC) is answered as a batch is. The text of sp_executesql, by its number 10, is its statement;
+that of a procedure that is called by its name is this name; other numbers choose none. Parameters are not put in.
+What no script answers gets a set without columns. A request that is refused, or of a type that is not answered here
+(bulk loads), ends its connection.
 
     --port N         the port: 1433 where none is said, a free one for 0
     --journal FILE   requests go to FILE, a line of JSON each, and not to standard output
@@ -52,11 +54,15 @@ from station import END_OF_MESSAGE, Missing, Refused, Station, text
 
 HOST, PORT, LOOPBACK = "127.0.0.1", 1433, bytes([127, 0, 0, 1])
 COMPOSE = [sys.executable, "-B", pathlib.Path(__file__).resolve().parent / "script.py", "compose"]
-BATCH, ATTENTION, TRANSACTION, LOGIN, PRELOGIN = 0x01, 0x06, 0x0E, 0x10, 0x12
+BATCH, RPC, ATTENTION, TRANSACTION, LOGIN, PRELOGIN = 0x01, 0x03, 0x06, 0x0E, 0x10, 0x12
+EXECUTE_SQL, FIRST = 10, 0
+RPC_SLOTS, RPC_BY_NAME, RPC_NUMBER, RPC_CASE = 19, 0, 3, 15
+CASE_PART, CASE_MAX = 2, 3
 TRANSACTIONS = {5: "begin", 7: "commit", 8: "rollback"}
 HEADER = 8
 SET, FEATURE, UTF8_SUPPORT = 0x0001, 0x0013, 0x0A
 DONE_LENGTH, DONE_COUNT = 13, 0x10
+WITHOUT_HEADERS = struct.pack("<I", 4)
 NUMBERED = re.compile(r"\bscript ([0-9]{1,9})\b", re.I)
 COUNTED = re.compile(r"\bcounted\b")
 SETUP = re.compile(r"(set|use|begin|commit|rollback)\b|select\s+@@|if\s+@@", re.I)
@@ -132,6 +138,26 @@ def counted(reply):
     return reply[:at] + bytes([reply[at] | DONE_COUNT]) + reply[at + 1:]
 
 
+def called(body, slots):
+    """The bytes that choose a call's script: the procedure's name, or the statement of sp_executesql; None for none."""
+    by_name, start, length, number, _, at, size = slots[:7]
+    if by_name:
+        return body[start:start + length]
+    if number != EXECUTE_SQL:
+        return None
+    value, case = body[at:at + size], slots[RPC_CASE]
+    return chunks_joined(value) if case == CASE_MAX else value if case == CASE_PART else b""
+
+
+def chunks_joined(held):
+    """The bytes of a Max value: of its chunks, until one of no bytes."""
+    parts, at = [], 0
+    while length := int.from_bytes(held[at:at + 4], "little"):
+        parts.append(held[at + 4:at + 4 + length])
+        at += 4 + length
+    return b"".join(parts)
+
+
 def record(kind, payload=b""):
     return struct.pack("<IH", len(payload), kind) + payload
 
@@ -184,8 +210,8 @@ class Conversation(socketserver.BaseRequestHandler):
 
     def answer(self, kind, body):
         """What a request says, for the journal, and its reply."""
-        answers = {PRELOGIN: self.prelogin, LOGIN: self.login, BATCH: self.batch, TRANSACTION: self.transaction,
-                   ATTENTION: self.attention}
+        answers = {PRELOGIN: self.prelogin, LOGIN: self.login, BATCH: self.batch, RPC: self.procedure_call,
+                   TRANSACTION: self.transaction, ATTENTION: self.attention}
         if kind not in answers:
             raise Unanswered(f"packets of type {kind:02X} are not answered here")
         return answers[kind](body)
@@ -209,15 +235,30 @@ class Conversation(socketserver.BaseRequestHandler):
         return self.station.written("build_feature_ext_ack", asked) if UTF8_SUPPORT in ids else b""
 
     def batch(self, body):
-        _, place = self.station.numbers("parse_sql_batch", 2, body)
+        said = self.batch_text(body)
         found, held = self.station.numbers("parse_transaction_descriptor_header", 2, body)
-        said = text(body, *place)
-        number = chosen(self.server.scripts, said)
-        entry = {"request": "batch", "text": said, "descriptor": held if found else None, "script": number}
+        number, reply = self.scripted(said)
+        return {"request": "batch", "text": said, "descriptor": held if found else None, "script": number}, reply
+
+    def batch_text(self, body):
+        _, place = self.station.numbers("parse_sql_batch", 2, body)
+        return text(body, *place)
+
+    def scripted(self, said):
+        """The number of the script that a text chooses, None for none, and the reply."""
+        number = None if said is None else chosen(self.server.scripts, said)
         if number is None:
-            return entry, self.station.written("build_query_results", record(SET))
+            return None, self.station.written("build_query_results", record(SET))
         reply = self.server.scripts[number].reply
-        return entry, counted(reply) if self.server.counts and COUNTED.search(said) else reply
+        return number, counted(reply) if self.server.counts and COUNTED.search(said) else reply
+
+    def procedure_call(self, body):
+        _, slots = self.station.numbers("parse_rpc_request", RPC_SLOTS, body, FIRST)
+        held = called(body, slots)
+        said = None if held is None else self.batch_text(WITHOUT_HEADERS + held)
+        number, reply = self.scripted(said)
+        procedure = None if slots[RPC_BY_NAME] else slots[RPC_NUMBER]
+        return {"request": "call", "procedure": procedure, "text": said, "script": number}, reply
 
     def transaction(self, body):
         kind = self.station.call("parse_transaction_manager_request", body)
@@ -257,13 +298,21 @@ def line(entry, scripts):
         database = "no database" if entry["database"] is None else f"database {shown(entry['database'])}"
         routed = f"routed to port {entry['routed']}" if entry["routed"] else "accepted"
         return f"login, server {shown(entry['server'] or '')}, {database}: {routed}"
-    if kind == "batch":
+    if kind in ("batch", "call"):
         number = entry["script"]
         answer = "a set without columns" if number is None else f"script {number}, {scripts[number].name}"
-        return f"batch {shown(entry['text'])}: {answer}"
+        return f"{kind} {asked(entry)}: {answer}"
     if kind == "transaction":
         return f"transaction request {entry['type']}, {TRANSACTIONS.get(entry['type'], 'another')}"
     return f"refused: {entry['why']}; the connection ends" if kind == "refused" else kind
+
+
+def asked(entry):
+    """What a batch or a call asks for: its text, or the number of its procedure."""
+    if entry["text"] is None:
+        return f"of procedure {entry['procedure']}"
+    executes = entry.get("procedure") == EXECUTE_SQL
+    return ("of sp_executesql " if executes else "") + shown(entry["text"])
 
 
 def shown(said):
@@ -315,7 +364,7 @@ def opened(options, scripts, station):
 def serve(options):
     """Serves until it is interrupted."""
     station = Station()
-    station.require("write_header", "fit")
+    station.require("write_header", "fit", "parse_rpc_request")
     scripts = all_loaded(station, options.scripts)
     servers = opened(options, scripts, station)
     print(f"listening on {HOST}:{servers[0].port}", flush=True)

@@ -4,9 +4,12 @@
 //! the case's call once to warm up and once within `measured`, and prints the bytes of its input,
 //! the bytes of its answer and the answer's sum. `bench CASE time` runs the call on both sides in
 //! turn, many times, and prints the nanoseconds of ours and of the Rust's; ours is `-` where the
-//! library does not export it. `bench steps` reads the packet on standard input by `station_step`.
+//! library does not export it. `bench steps` reads the packet on standard input by `station_step`,
+//! `bench rpc NUMBER` the procedure call there, with its parameter of a number.
 
 mod cases;
+#[cfg(feature = "rpc")]
+mod procedures;
 mod region;
 mod requests;
 mod results;
@@ -43,7 +46,7 @@ use cases::{Case, Outcome, Side, cases};
 use region::Measure;
 use std::process::ExitCode;
 
-const USAGE: &str = "bench list\nbench CASE ours|rust|time\nbench steps";
+const USAGE: &str = "bench list\nbench CASE ours|rust|time\nbench steps\nbench rpc NUMBER";
 
 /// How often the sides take turns. A time is the least of so many medians: whatever else the machine
 /// does only adds to it.
@@ -59,6 +62,8 @@ fn main() -> ExitCode {
         }
         #[cfg(feature = "result")]
         ["steps"] => steps::count(),
+        #[cfg(feature = "rpc")]
+        ["rpc", number] => procedures::count(number),
         [case, "ours"] => count(case, Side::Ours),
         [case, "rust"] => count(case, Side::Rust),
         [case, "time"] => time(case),

@@ -1,5 +1,6 @@
 """The packets that layouts are made of: each a name and bytes, which need not be a packet."""
 import collections
+import importlib.util
 import random
 import re
 
@@ -11,7 +12,7 @@ import examples
 BARE = re.compile(
     r"build_(?!query_result|prelogin|attention|fedauth_challenge|error_response|routing_response|routing_login)")
 REQUESTS = {"parse_sql_batch": 0x01, "parse_transaction_manager_request": 0x0E, "parse_fedauth_token": 0x08,
-            "parse_login7": 0x10, "parse_transaction_descriptor_header": 0x03}
+            "parse_login7": 0x10, "parse_transaction_descriptor_header": 0x03, "parse_rpc_request": 0x03}
 LIKELY = b"\x00\x01\x02\x04\x08\x10\x12\x26\x81\xA5\xA7\xAA\xAB\xAD\xAE\xD1\xE3\xE7\xEE\xFD\xFE\xFF"
 READ_TYPES = ("type 26", "type E7", "type A7", "type A5")
 MANY = 200
@@ -55,6 +56,27 @@ def worked():
     held = [(example.name, bytes(example.held)) for example in examples.read()]
     yield from held
     yield "all examples of MS-TDS", b"".join(each for _, each in held)
+
+
+def of_calls(root, name):
+    """A module of tests/rpc; two of its names are taken."""
+    found = importlib.util.spec_from_file_location(f"rpc_{name}", root / f"tests/rpc/{name}.py")
+    module = importlib.util.module_from_spec(found)
+    found.loader.exec_module(module)
+    return module
+
+
+def called(root):
+    """Procedure calls: those of tests/rpc, worked, built and as clients sent them; two in one request."""
+    stored, built = of_calls(root, "stored"), of_calls(root, "building")
+    bodies = [(place, body) for place, _, body, _ in stored.worked()]
+    bodies += [(call.name, call.body) for call in stored.captured()]
+    bodies += [(name, b"".join(pieces)) for name, pieces in built.fixed()]
+    first, second = (built.call(built.named(name), built.number(4, 7, "@n")) for name in ("p", "q"))
+    for flag in (b"\xFE", b"\xFF"):
+        bodies.append((f"two calls, {flag.hex()}", b"".join([*first, flag, second[0][4:], *second[1:]])))
+    for name, body in bodies:
+        yield f"rpc, {name}", building.packet(body, 0x03)
 
 
 def ruled():
@@ -114,6 +136,6 @@ def split(source, held):
 
 
 def all_packets(root, seed, count):
-    fixed = [*stored(root), *listed(root), *worked()]
+    fixed = [*stored(root), *listed(root), *worked(), *called(root)]
     undamaged = [held for _, held in fixed if len(held) < 600]
     return [*fixed, *ruled(), *prefixes(root), *by_chance(random.Random(seed), count, undamaged)]

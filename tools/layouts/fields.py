@@ -1,14 +1,14 @@
 """Fields of a packet: taking them one after the other, and how they are said in words.
 
 A `Piece` is a field: start and length in the packet, the token it belongs to, its name in MS-TDS, its meaning. A `Line`
-has the pieces that are shown together. A `Fault` says what is wrong at a place, with the number of the reply reader's
-refusal for it, where it has one.
+has the pieces that are shown together. A `Fault` says what is wrong at a place, with the number of the reader's refusal
+for it, where it has one.
 """
 from typing import NamedTuple
 
 import script
 
-from .refusals import CUT
+from .refusals import IN_REPLY
 
 
 class Piece(NamedTuple):
@@ -24,7 +24,7 @@ class Fault(NamedTuple):
     place: int
     number: int | None
     words: str
-    label: str = "wrong"  # or "note", where nothing is wrong but for the reply reader
+    label: str = "wrong"  # or "note", where nothing is wrong but for the reader
 
 
 class Line:
@@ -42,7 +42,7 @@ class Fields:
     """Takes a packet's fields one after the other; each goes to the line that was opened last."""
 
     def __init__(self, held):
-        self.held, self.at, self.lines, self.faults = held, 0, [], []
+        self.held, self.at, self.lines, self.faults, self.rules = held, 0, [], [], IN_REPLY
 
     def line(self, token, indent, comment=None):
         self.lines.append(Line(token, indent, comment or token))
@@ -55,7 +55,7 @@ class Fields:
         """A field of so many bytes; meaning is what it says, or a function that says it from the bytes."""
         if self.left() < size:
             self.add(field, self.left(), f"cut: {self.left()} of {many(size, 'byte')}", group)
-            self.fault(CUT, f"{field} is cut: {many(size, 'byte')} needed", len(self.held))
+            self.fault(self.rules.cut, f"{field} is cut: {many(size, 'byte')} needed", len(self.held))
             raise Unread
         held = self.held[self.at:self.at + size]
         self.add(field, size, meaning(held) if callable(meaning) else meaning, group)

@@ -6,13 +6,16 @@ bytes once, in order, whatever the bytes are: what is not understood is a piece 
 import re
 from typing import NamedTuple
 
+from .calls import read_calls
 from .fields import Fields, Line, Unread, bits, many, named
 from .refusals import HEADER_CUT, NOT_A_REPLY, UNKNOWN_TYPE
 from .replies import read_reply
-from .requests import read_batch, read_call, read_fedauth_token, read_login, read_prelogin, read_transaction
+from .requests import read_batch, read_fedauth_token, read_login, read_prelogin, read_transaction
 
 HEADER = 8
-REPLY = 0x04
+CALL, REPLY = 0x03, 0x04
+CALL_READER, REPLY_READER = "rpc", "tokens"  # the calls of the program `answer`
+NUMBER = 4  # the bytes of the asked parameter's number, which the call reader is given before the body
 TYPES = {0x01: "SQL batch", 0x02: "old login", 0x03: "RPC request", 0x04: "reply", 0x06: "attention",
          0x07: "bulk load", 0x08: "FEDAUTH token", 0x0E: "transaction request",
          0x10: "login", 0x11: "SSPI message", 0x12: "prelogin"}
@@ -26,13 +29,14 @@ class Packet(NamedTuple):
     held: bytes
     lines: list
     faults: list
-    judged: bool  # whether the reply reader is asked: a reply that begins here, or a header that is not read
+    reader: str | None  # that is asked: of a reply that begins here, a header that is not read, a call (see `asked`)
+    given: bytes  # what it is asked about
 
     def pieces(self):
         return [piece for line in self.lines for piece in line.pieces]
 
 
-BODIES = {0x01: read_batch, 0x03: read_call, REPLY: read_reply, 0x06: lambda f: None, 0x08: read_fedauth_token,
+BODIES = {0x01: read_batch, CALL: read_calls, REPLY: read_reply, 0x06: lambda f: None, 0x08: read_fedauth_token,
           0x0E: read_transaction, 0x10: read_login, 0x12: read_prelogin}
 
 
@@ -83,7 +87,24 @@ def read_message_of(parts):
     body.unread("bytes", len(body.held), "not read")
     heads[0].faults = []
     shares = share(body, [(len(held), f) for (_, held), f in zip(parts, heads)])
-    return [finished(part, kind, *each, i > 0) for i, (part, kind, each) in enumerate(zip(parts, kinds, shares))]
+    if kinds[0] == CALL:
+        readers = asked(shares, bytes(NUMBER) + body.held[HEADER:])
+    else:
+        readers = [reply_reader(part, kind, i > 0) for i, (part, kind) in enumerate(zip(parts, kinds))]
+    return [finished(*each) for each in zip(parts, shares, readers)]
+
+
+def reply_reader(part, kind, follows):
+    """The reader of a packet that is no call, and what it is given; follows says that its message began before."""
+    judged = kind not in READ_TYPES or kind == REPLY and not follows
+    return (REPLY_READER, part[1]) if judged else (None, b"")
+
+
+def asked(shares, given):
+    """The readers of a call's packets: the packet that has the first fault is asked about, or else the last one."""
+    faulty = [i for i, (_, faults) in enumerate(shares) if any(fault.number for fault in faults)]
+    place = faulty[0] if faulty else len(shares) - 1
+    return [(CALL_READER, given) if i == place else (None, b"") for i in range(len(shares))]
 
 
 def read_head_of(f):
@@ -121,12 +142,12 @@ def part_of(line, start, end, shift):
     return part
 
 
-def finished(part, kind, lines, faults, follows):
-    """A packet; follows says that its message began in a packet before."""
-    judged = kind not in READ_TYPES or kind == REPLY and not follows
-    faults = faults if judged else [fault._replace(number=None) for fault in faults]
+def finished(part, shared, reader):
+    """A packet, with its lines and faults, and its reader."""
+    lines, faults = shared
+    faults = faults if reader[0] else [fault._replace(number=None) for fault in faults]
     lines = [line for line in lines if line.pieces]
-    return Packet(*part, lines, sorted(faults, key=lambda fault: fault.place), judged)
+    return Packet(*part, lines, sorted(faults, key=lambda fault: fault.place), *reader)
 
 
 def another_header(held, at):

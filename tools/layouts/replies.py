@@ -2,17 +2,14 @@
 
 Where the reply reader's rules are broken there is a fault with its number; the first one is where that reader stops.
 """
-from .fields import (Fields, Unread, ascii_letters, bits, counted_text, hexed, letters, many, named, read_version,
-                     read_zone, show_text, tds_version)
+from .fields import (Fields, Unread, bits, counted_text, hexed, many, named, read_version, read_zone, show_text,
+                     tds_version)
 from .refusals import COLUMNS, CUT, NO_COLUMNS, UNKNOWN_TOKEN, WRONG
 from .requests import read_features, read_prelogin
+from .values import read_type, read_value
 
 COLMETADATA, ROW, DONE, ERROR, INFO = 0x81, 0xD1, 0xFD, 0xAA, 0xAB
-MOST_COLUMNS, MOST_BOUNDED, MAX = 128, 8000, 0xFFFF
-INTN, NVARCHAR, VARCHAR, VARBINARY = 0x26, 0xE7, 0xA7, 0xA5
-COLUMN_TYPES = {INTN: ("INTN", "IntN"), NVARCHAR: ("NVARCHAR", "NVarChar"), VARCHAR: ("BIGVARCHAR", "VarChar"),
-                VARBINARY: ("BIGVARBINARY", "VarBinary")}
-NULL_TOTAL, UNKNOWN_TOTAL = 2**64 - 1, 2**64 - 2
+MOST_COLUMNS = 128
 MESSAGE_NUMBERS = 14  # the bytes of ERROR or INFO after its length that are no text
 DONE_BITS = {0x0001: "more follows", 0x0002: "an error", 0x0004: "in a transaction", 0x0010: "the row count is valid",
              0x0020: "answers an attention", 0x0100: "a severe error"}
@@ -73,34 +70,11 @@ def read_column(f):
     line = f.line("COLMETADATA", 2, "column")
     user = f.number("UserType", 4)
     flags = f.number("Flags", 2, hexed(4))
-    code = f.number("TYPE_INFO type", 1, lambda code: f"type {code:02X}, {COLUMN_TYPES.get(code, ['not read'])[0]}")
-    if code not in COLUMN_TYPES:
-        f.fault(WRONG, f"a column of type {code:02X}; read are " + ", ".join(f"{each:02X}" for each in COLUMN_TYPES))
-        raise Unread
-    limit = f.number("TYPE_INFO length", 1 if code == INTN else 2, lambda limit: limit_words(code, limit))
-    if not limit_is_read(code, limit):
-        f.fault(WRONG, f"a column of type {code:02X} with length {limit}")
-    words = [f"user type {user}" if user else "user type", f"flags {flags:04X}" if flags else "flags"]
-    words.append(f"{COLUMN_TYPES[code][1]} {'' if limit == MAX else 'of '}{limit_words(code, limit)}")
-    if code in (NVARCHAR, VARCHAR):
-        f.take("COLLATION", 5, lambda held: held.hex().upper(), 5)
-        words.append("collation")
+    code, limit, type_words = read_type(f)
+    words = [f"user type {user}" if user else "user type", f"flags {flags:04X}" if flags else "flags", *type_words]
     line.comment = "column: " + ", ".join(words)
     counted_text(f, "COLMETADATA", "ColName", "name", 1, "character")
     return code, limit
-
-
-def limit_words(code, limit):
-    if code == INTN:
-        return many(limit, "byte")
-    return "Max" if limit == MAX else f"up to {many(limit, 'byte')}"
-
-
-def limit_is_read(code, limit):
-    """Whether the reply reader reads columns of a type and length."""
-    if code == INTN:
-        return limit in (1, 2, 4, 8)
-    return limit == MAX or code == NVARCHAR and 1 <= limit <= MOST_BOUNDED
 
 
 def read_row(f, columns):
@@ -109,74 +83,7 @@ def read_row(f, columns):
     if not columns:
         f.fault(NO_COLUMNS, "a row, and no columns for it")
     for code, limit in columns:
-        line = f.line("ROW", 2, "cell")
-        if code == INTN:
-            line.comment = "cell: " + read_integer(f, limit)
-        elif limit != MAX:
-            line.comment = "cell: " + read_bounded(f, code, limit)
-        else:
-            read_long(f, line, code)
-
-
-def read_integer(f, width):
-    size = f.number("Length", 1, lambda size: many(size, "byte") if size else "null")
-    if size == 0:
-        return "no byte, null"
-    if size != width:
-        f.fault(WRONG, f"a cell of {many(size, 'byte')} in a column of {width}")
-    held = f.take("Value", size, lambda held: str(int.from_bytes(held, "little", signed=size > 1)), min(size, 8))
-    return f"{many(size, 'byte')}, {int.from_bytes(held, 'little', signed=size > 1)}"
-
-
-def value_words(code):
-    return letters if code == NVARCHAR else ascii_letters
-
-
-def read_bounded(f, code, limit):
-    size = f.number("Length", 2, lambda size: "null" if size == MAX else many(size, "byte"))
-    if size == MAX:
-        return "null"
-    if size > limit:
-        f.fault(WRONG, f"a cell of {many(size, 'byte')} in a column of up to {limit}")
-    elif code == NVARCHAR and size % 2:
-        f.fault(WRONG, f"a text of {many(size, 'byte')}, which is odd")
-    return read_octets(f, code, size)
-
-
-def read_octets(f, code, size):
-    """The bytes of a text or of another value; the answer is what a comment says of them."""
-    say = value_words(code)
-    held = f.take("Value", size, lambda held: say(held) or many(size, "byte"), 2 if code == NVARCHAR else 4)
-    return ", ".join(filter(None, [many(size, "byte"), say(held)]))
-
-
-def total_words(total):
-    if total == NULL_TOTAL:
-        return "null"
-    return "of unknown length" if total == UNKNOWN_TOTAL else f"{many(total, 'byte')} in all"
-
-
-def read_long(f, line, code):
-    """A Max value: a total, then chunks until one of no bytes."""
-    total = f.number("Total", 8, total_words)
-    line.comment = f"cell: {total_words(total)}"
-    if total == NULL_TOTAL:
-        return
-    known, joined = total != UNKNOWN_TOTAL, 0
-    if known and code == NVARCHAR and total % 2:
-        f.fault(WRONG, f"a text of {many(total, 'byte')}, which is odd")
-    while True:
-        line = f.line("ROW", 4, "chunk")
-        size = f.number("Chunk length", 4, lambda size: many(size, "byte") if size else "no further chunk")
-        if code == NVARCHAR and size % 2:
-            f.fault(WRONG, f"a chunk of a text of {many(size, 'byte')}, which is odd")
-        joined += size
-        if known and (joined > total or size == 0 and joined < total):
-            f.fault(WRONG, f"chunks of {many(joined, 'byte')}, and {total} in all")
-        if size == 0:
-            line.comment = "no further chunk"
-            return
-        line.comment = f"chunk: {read_octets(f, code, size)}"
+        read_value(f, 2, code, limit)
 
 
 def done_words(status):

@@ -24,7 +24,6 @@ LOGIN_PLACES = ("HostName", "UserName", "Password", "AppName", "ServerName", "Ex
 LATER_PLACES = ("SSPI", "AtchDBFile", "ChangePassword")
 IN_BYTES, SECRET = ("Extension", "SSPI"), ("Password", "ChangePassword")
 EXTENSION_BIT = 0x10  # of OptionFlags3
-NO_PROCEDURE_NAME = 0xFFFF
 
 
 def read_prelogin(f):
@@ -149,7 +148,8 @@ def read_headers(f):
     line.comment = f"ALL_HEADERS: {many(total, 'byte')} with this length"
     end = start + total
     if total < 4 or end > len(f.held):
-        f.fault(None, f"headers of {many(total, 'byte')}, which are not within 4 and the body's length")
+        words = f"headers of {many(total, 'byte')}, which are not within 4 and the body's length"
+        f.fault(f.rules.cut, words, len(f.held) if total >= 4 else None)
         raise Unread
     while f.at < end:
         read_request_header(f, end)
@@ -183,21 +183,6 @@ def read_batch(f):
     line.comment = f"text: {many(size // 2, 'unit')}, {letters(held)}"
     if f.left():
         f.unread("SQLText", len(f.held), "a byte that is no unit")
-
-
-def read_call(f):
-    """A remote procedure call: its name or number and its options; its parameters are not read."""
-    read_headers(f)
-    line = f.line("RPC", 0, "procedure")
-    count = f.number("NameLenProcID", 2, lambda count: "a number follows" if count == NO_PROCEDURE_NAME
-                     else many(count, "unit"))
-    if count == NO_PROCEDURE_NAME:
-        line.comment = f"procedure {f.number('ProcID', 2)}"
-    else:
-        line.comment = f"procedure: {many(count, 'unit')}, {f.text('ProcName', count)}"
-    line = f.line("RPC", 0, "options")
-    line.comment = f"options {f.number('OptionFlags', 2, hexed(4)):04X}"
-    f.unread("RPC", len(f.held), "parameters, which are not read")
 
 
 def read_transaction(f):

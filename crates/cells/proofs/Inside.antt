@@ -1,31 +1,18 @@
 -- A type and a cell that are read lie in the packet, and so do their parts. Assumes nothing.
-use mathlib.Core.Path.{_≡_}
-use mathlib.Core.Bool.{Bool, cond, not, _&&_, _||_}
+use mathlib.Core.Bool.{Bool}
 use mathlib.Core.List.{List}
 use Prim.Native.Nat.{ℕ, zero, suc, _+_, _-_, _≤_, _<_}
 use native.Mathlib.Omega.{arith}
-use lib.Dec.{eqb, leb}
+use lib.Dec.{eqb}
 use lib.ListN.{length, drop}
 use Rattle.wire.specs.Le.{leAt}
 use Rattle.wire.specs.declared.Part.{Part}
-use Rattle.wire.specs.Even.{even}
-use Rattle.token.specs.Types.{lengthWidth, collationSize}
-use Rattle.payload.specs.Places.{Place, Read, whole, refused, numberAt, partAt, must, then, partTo}
+use Rattle.payload.specs.Places.{Place}
 use Rattle.payload.proofs.Each.{Each, got, none, cond-each, must-each, number-each, part-each, then-each, each-more}
 use Rattle.cells.specs.declared.TypeInfo.{TypeInfo}
 use Rattle.cells.specs.declared.Value.{Value}
-use Rattle.cells.specs.declared.Value.the-variants as value
-use Rattle.cells.specs.Cells.{isCode, isType, typeAt, integerAt, boundedAt, isChunk, isLast, chunkAt, chunksAt, maxAt, cellAt}
-
--- a part ends within so many bytes
-abbrev pub Ends : ℕ → Part → Type 0
-Ends n p = p .start + p .len ≤ n
-
-abbrev pub ValueEnds : ℕ → Value → Type 0
-ValueEnds n (value.Number z) = Unit {0}
-ValueEnds n (value.Part p) = Ends n p
-ValueEnds n (value.Max p) = Ends n p
-ValueEnds n value.Null = Unit {0}
+use Rattle.cells.specs.Inside.{PartIn, ValueIn}
+use Rattle.cells.specs.Cells.{typeAt, integerAt, boundedAt, chunkAt, chunksAt, maxAt, cellAt}
 
 module _ (p : List ℕ) where
   -- what is read from a place on ends after it, and within the packet
@@ -35,16 +22,16 @@ module _ (p : List ℕ) where
   abbrev OnwardOf : Place → ℕ → Place → Type 0
   OnwardOf at n to = Onward at to
 
-  abbrev ChunksIn : Place → Part → Place → Type 0
-  ChunksIn at q to = Onward at to × Ends (length p) q
+  abbrev ChunksTo : Place → Part → Place → Type 0
+  ChunksTo at q to = Onward at to × PartIn (length p) q
 
-  abbrev pub TypeIn : Place → TypeInfo → Place → Type 0
-  TypeIn at t to = Onward at to × Ends (length p) (t .collation)
+  abbrev pub TypeTo : Place → TypeInfo → Place → Type 0
+  TypeTo at t to = Onward at to × PartIn (length p) (t .collation)
 
-  abbrev pub ValueIn : Place → Value → Place → Type 0
-  ValueIn at v to = Onward at to × ValueEnds (length p) v
+  abbrev pub ValueTo : Place → Value → Place → Type 0
+  ValueTo at v to = Onward at to × ValueIn (length p) v
 
-  pub type-in : (at : Place) → Each (TypeIn at) (typeAt p at)
+  pub type-in : (at : Place) → Each (TypeTo at) (typeAt p at)
   unfolding typeAt
   type-in at =
       number-each _ 1 p at _ (λ h1.
@@ -54,7 +41,7 @@ module _ (p : List ℕ) where
       part-each _ _ p _ _ (λ h3.
       got ((omega arith, h3), h3))))))
 
-  integer-in : (limit : ℕ) (at : Place) → Each (ValueIn at) (integerAt limit p at)
+  integer-in : (limit : ℕ) (at : Place) → Each (ValueTo at) (integerAt limit p at)
   unfolding integerAt
   integer-in limit at =
       number-each _ 1 p at _ (λ h1.
@@ -63,7 +50,7 @@ module _ (p : List ℕ) where
       number-each _ _ p (at + 1) _ (λ h2.
       got ((omega arith, h2), tt)))))
 
-  bounded-in : (limit : ℕ) (at : Place) → Each (ValueIn at) (boundedAt limit p at)
+  bounded-in : (limit : ℕ) (at : Place) → Each (ValueTo at) (boundedAt limit p at)
   unfolding boundedAt
   bounded-in limit at =
       number-each _ 2 p at _ (λ h1.
@@ -81,25 +68,25 @@ module _ (p : List ℕ) where
         (λ e. must-each _ _ _ _ (λ e. got (omega arith, h1)))
         (λ e. must-each _ _ _ _ (λ e. part-each _ _ p (at + 4) _ (λ h2. got (omega arith, h2)))))
 
-    chunks-in : (turns : ℕ) (start : Place) (left : ℕ) (at : Place) → start ≤ at → Each (ChunksIn at) (chunksAt turns text known p start left at)
+    chunks-in : (turns : ℕ) (start : Place) (left : ℕ) (at : Place) → start ≤ at → Each (ChunksTo at) (chunksAt turns text known p start left at)
     unfolding chunksAt
     chunks-in zero start left at h = none
     chunks-in (suc turns) start left at h =
         then-each (OnwardOf at) _ (chunkAt text known p left at) _ (chunk-in left at) (λ n to i.
         cond-each _ (eqb n 0) _ _
         (λ e. got (i, omega arith))
-        (λ e. each-more (ChunksIn to) _ _ (λ q end j. ((omega arith, j .0 .1), j .1)) (chunks-in turns start (left - n) to (omega arith))))
+        (λ e. each-more (ChunksTo to) _ _ (λ q end j. ((omega arith, j .0 .1), j .1)) (chunks-in turns start (left - n) to (omega arith))))
 
-  max-in : (text : Bool) (at : Place) → Each (ValueIn at) (maxAt text p at)
+  max-in : (text : Bool) (at : Place) → Each (ValueTo at) (maxAt text p at)
   unfolding maxAt
   max-in text at =
       number-each _ 8 p at _ (λ h1.
       cond-each _ (eqb (leAt 8 (drop at p)) 0xFFFFFFFFFFFFFFFF) _ _ (λ e. got ((omega arith, h1), tt)) (λ e.
       must-each _ _ _ _ (λ e.
-      then-each (ChunksIn (at + 8)) _ _ _ (chunks-in text _ _ (at + 8) _ (at + 8) (omega arith)) (λ q to i.
+      then-each (ChunksTo (at + 8)) _ _ _ (chunks-in text _ _ (at + 8) _ (at + 8) (omega arith)) (λ q to i.
       got ((omega arith, i .0 .1), i .1)))))
 
-  pub cell-in : (code limit : ℕ) (at : Place) → Each (ValueIn at) (cellAt code limit p at)
+  pub cell-in : (code limit : ℕ) (at : Place) → Each (ValueTo at) (cellAt code limit p at)
   unfolding cellAt
   cell-in code limit at =
       must-each _ _ _ _ (λ e.

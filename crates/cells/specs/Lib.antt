@@ -1,4 +1,5 @@
 pub mod Cells
 pub mod Values
+pub mod Inside
 pub mod Answers
 pub mod Code

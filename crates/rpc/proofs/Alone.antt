@@ -1,6 +1,5 @@
 -- Which parameter is asked for changes nothing else. Assumes nothing.
 use mathlib.Core.Path.{_≡_, refl}
-use mathlib.Core.List.{List}
 use Prim.Native.Nat.{ℕ}
 use Rattle.request.specs.Headers.{allHeaders}
 use Rattle.payload.specs.Places.{Read, whole, refused}

@@ -1,6 +1,6 @@
 -- What is answered of a call whose head and parameters were read. Assumes nothing.
-use mathlib.Core.Path.{_≡_, refl, sym, ap, _∙_}
-use mathlib.Core.Bool.{Bool, true, false, cond, not, _&&_}
+use mathlib.Core.Path.{_≡_, sym, ap, _∙_}
+use mathlib.Core.Bool.{not, _&&_}
 use mathlib.Core.List.{List, [], _∷_}
 use Prim.Native.Nat.{ℕ}
 use Rattle.wire.proofs.Cases.{by-test}
@@ -11,7 +11,6 @@ use Rattle.rpc.specs.declared.ParameterAt.{ParameterAt}
 use Rattle.rpc.specs.declared.Seen.{Seen}
 use Rattle.rpc.specs.declared.ParametersRead.{ParametersRead}
 use Rattle.rpc.specs.declared.ParametersRead.the-variants as parameters
-use Rattle.rpc.specs.declared.Rpc.{Rpc}
 use Rattle.rpc.specs.declared.Rpc.the-variants as rpc
 use Rattle.rpc.specs.Rpc.{runsStatement, isEmpty, Sent, told}
 use Rattle.rpc.specs.Answers.{seenIn, parametersRead, toldOf}

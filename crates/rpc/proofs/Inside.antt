@@ -1,32 +1,31 @@
 -- What is read of a call lies in the request, each field after the last one, and so does every part that is answered. Assumes nothing.
 use mathlib.Core.Path.{_≡_, refl}
-use mathlib.Core.Bool.{Bool, true, false, cond, not, _&&_, _||_}
+use mathlib.Core.Bool.{Bool, true, false, cond}
 use mathlib.Core.List.{List, [], _∷_}
-use Prim.Native.Nat.{ℕ, zero, suc, _+_, _-_, _*_, _≤_, _<_}
+use Prim.Native.Nat.{ℕ, zero, suc, _+_, _-_, _≤_, _<_}
 use native.Mathlib.Omega.{arith}
 use lib.Dec.{eqb, leb}
 use lib.ListN.{length, drop}
 use Rattle.wire.specs.Le.{leAt}
 use Rattle.wire.specs.declared.Part.{Part}
-use Rattle.packet.specs.Status.{hasBit}
 use Rattle.request.specs.Headers.{allHeaders}
 use Rattle.request.specs.declared.Headers.{Headers}
 use Rattle.request.specs.declared.Headers.the-variants.{Length, Short, PastEnd}
-use Rattle.payload.specs.Places.{Place, Read, whole, refused, numberAt, partAt, must, then, partTo}
-use Rattle.payload.proofs.Each.{Each, got, none, each-of, cond-each, must-each, number-each, part-each, then-each, each-more}
+use Rattle.payload.specs.Places.{Place, Read, whole, refused}
+use Rattle.payload.proofs.Each.{Each, got, none, each-of, cond-each, must-each, number-each, part-each, then-each}
 use Rattle.cells.specs.declared.Value.{Value}
 use Rattle.cells.specs.declared.Value.the-variants as value
-use Rattle.cells.specs.Cells.{typeAt, cellAt}
+use Rattle.cells.specs.Inside.{PartIn, ValueIn}
 use Rattle.cells.proofs.Inside as cells
 use Rattle.rpc.specs.declared.Procedure.{Procedure}
-use Rattle.rpc.specs.declared.Procedure.the-variants.{Name, Number}
+use Rattle.rpc.specs.declared.Procedure.the-variants.{Number}
 use Rattle.rpc.specs.declared.Head.{Head}
 use Rattle.rpc.specs.declared.Metadata.{Metadata}
 use Rattle.rpc.specs.declared.Parameter.{Parameter}
 use Rattle.rpc.specs.declared.ParameterAt.{ParameterAt}
 use Rattle.rpc.specs.declared.Statement.the-variants as statement
-use Rattle.rpc.specs.Rpc.{renamed, inHead, inMetadata, inValue, procedureAt, headAt, nameAt, statusAt, metadataAt, valueAt, parameterAt, parametersAt, runsStatement, Sent, callAt, callAfter, askedIn, bytesTo, valueBytes, firstIn, told, rpcOf}
-use Rattle.rpc.specs.Inside.{PartIn, ProcedureIn, ValueIn, ParameterIn, AskedIn, StatementIn, AnswerIn, PartsInside}
+use Rattle.rpc.specs.Rpc.{renamed, inHead, inMetadata, inValue, procedureAt, headAt, nameAt, statusAt, metadataAt, valueAt, parameterAt, parametersAt, runsStatement, Sent, callAt, callAfter, askedIn, bytesTo, firstIn, told, rpcOf}
+use Rattle.rpc.specs.Inside.{ProcedureIn, ParameterIn, AskedIn, StatementIn, AnswerIn, PartsInside}
 
 renamed-each : {A : Type 0} (Q : A → Place → Type 0) (name : ℕ → ℕ) (x : Read A) → Each Q x → Each Q (renamed name x)
 unfolding renamed
@@ -88,14 +87,8 @@ module _ (b : List ℕ) where
   metadata-in at =
       then-each (NameTo at) _ _ _ (name-in at) (λ name a1 h1.
       then-each (StatusTo a1) _ _ _ (status-in a1) (λ status a2 h2.
-      then-each (cells.TypeIn b a2) _ _ _ (cells.type-in b a2) (λ info a3 h3.
+      then-each (cells.TypeTo b a2) _ _ _ (cells.type-in b a2) (λ info a3 h3.
       got ((omega arith, h3 .0 .1), h1 .1, h3 .1))))
-
-  value-ends : (v : Value) → cells.ValueEnds (length b) v → ValueIn (length b) v
-  value-ends (value.Number n) h = tt
-  value-ends (value.Part q) h = h
-  value-ends (value.Max q) h = h
-  value-ends value.Null h = tt
 
   abbrev ParameterTo : Place → Parameter → Place → Type 0
   ParameterTo at p to = Onward at to × ParameterIn (length b) p
@@ -104,8 +97,8 @@ module _ (b : List ℕ) where
   unfolding parameterAt valueAt
   parameter-in at =
       then-each (MetadataTo at) _ _ _ (renamed-each _ inMetadata _ (metadata-in at)) (λ m a1 h1.
-      then-each (cells.ValueIn b a1) _ _ _ (renamed-each _ inValue _ (cells.cell-in b (m .info .code) (m .info .limit) a1)) (λ v a2 h2.
-      got ((omega arith, h2 .0 .1), (h1 .1, h1 .2, value-ends v (h2 .1)))))
+      then-each (cells.ValueTo b a1) _ _ _ (renamed-each _ inValue _ (cells.cell-in b (m .info .code) (m .info .limit) a1)) (λ v a2 h2.
+      got ((omega arith, h2 .0 .1), (h1 .1, h1 .2, h2 .1))))
 
   -- a parameter that is read moves on
   pub parameter-onward : (at : Place) {p : Parameter} {to : ℕ} → parameterAt b at ≡ whole p to → at < to

@@ -1,5 +1,6 @@
 pub mod Told
 pub mod Inside
+pub mod Refusals
 pub mod Walk
 pub mod Alone
 pub mod Calls

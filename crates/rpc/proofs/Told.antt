@@ -29,44 +29,28 @@ procedureOf (procedure.Whole p to) = whole p to
 procedureOf (procedure.Refused n) = refused n
 
 pub procedure-told : (x : Read Procedure) {r s : ProcedureRead} → r ≡ procedureRead x → r ≡ s → x ≡ procedureOf s
-procedure-told = told-by procedureRead procedureOf inverse
-  where
-    inverse : (x : Read Procedure) → procedureOf (procedureRead x) ≡ x
-    inverse (whole p to) = refl
-    inverse (refused n) = refl
+procedure-told = told-by procedureRead procedureOf (λ x. elim x [ whole p to ↦ refl | refused n ↦ refl ])
 
 abbrev headOf : HeadRead → Read Head
 headOf (head.Whole h to) = whole h to
 headOf (head.Refused n) = refused n
 
 pub head-told : (x : Read Head) {r s : HeadRead} → r ≡ headRead x → r ≡ s → x ≡ headOf s
-head-told = told-by headRead headOf inverse
-  where
-    inverse : (x : Read Head) → headOf (headRead x) ≡ x
-    inverse (whole h to) = refl
-    inverse (refused n) = refl
+head-told = told-by headRead headOf (λ x. elim x [ whole h to ↦ refl | refused n ↦ refl ])
 
 abbrev metadataOf : MetadataRead → Read Metadata
 metadataOf (metadata.Whole m to) = whole m to
 metadataOf (metadata.Refused n) = refused n
 
 pub metadata-told : (x : Read Metadata) {r s : MetadataRead} → r ≡ metadataRead x → r ≡ s → x ≡ metadataOf s
-metadata-told = told-by metadataRead metadataOf inverse
-  where
-    inverse : (x : Read Metadata) → metadataOf (metadataRead x) ≡ x
-    inverse (whole m to) = refl
-    inverse (refused n) = refl
+metadata-told = told-by metadataRead metadataOf (λ x. elim x [ whole m to ↦ refl | refused n ↦ refl ])
 
 abbrev parameterOf : ParameterRead → Read Parameter
 parameterOf (parameter.Whole p) = whole (p .parameter) (p .next)
 parameterOf (parameter.Refused n) = refused n
 
 pub parameter-told : (x : Read Parameter) {r s : ParameterRead} → r ≡ parameterRead x → r ≡ s → x ≡ parameterOf s
-parameter-told = told-by parameterRead parameterOf inverse
-  where
-    inverse : (x : Read Parameter) → parameterOf (parameterRead x) ≡ x
-    inverse (whole p to) = refl
-    inverse (refused n) = refl
+parameter-told = told-by parameterRead parameterOf (λ x. elim x [ whole p to ↦ refl | refused n ↦ refl ])
 
 -- ---- refusals under another name
 

@@ -1,7 +1,7 @@
 -- The parameters of a call, one after another: what was passed, and what is left from a place on. Enough turns are as good as more.
 -- Assumes nothing.
 use mathlib.Core.Path.{_≡_, refl, sym, ap, _∙_}
-use mathlib.Core.Bool.{Bool, true, false, cond}
+use mathlib.Core.Bool.{Bool, true, false, cond, _||_}
 use mathlib.Core.List.{List, [], _∷_, _++_, append-assoc, append-nil}
 use Prim.Native.Nat.{ℕ, zero, suc, _+_, _-_, _≤_, _<_}
 use native.Mathlib.Omega.{arith}
@@ -10,10 +10,9 @@ use lib.ListN.{length, length-append}
 use borrow.Author.Tests.{le-leb, lt-leb, leb-false}
 use Rattle.wire.proofs.Cases.{by-test}
 use Rattle.payload.specs.Places.{Place, Read, whole, refused, then}
-use Rattle.payload.proofs.CodeReads.{then-got, then-not, then-same, if-so, if-not}
+use Rattle.payload.proofs.CodeReads.{clash, then-got, then-not, then-same, if-so, if-not}
 use Rattle.rpc.specs.declared.Parameter.{Parameter}
 use Rattle.rpc.specs.declared.ParameterAt.{ParameterAt}
-use Rattle.rpc.specs.declared.Asked.{Asked}
 use Rattle.rpc.specs.declared.Asked.the-variants as asked
 use Rattle.rpc.specs.declared.Statement.the-variants as statement
 use Rattle.rpc.specs.declared.Seen.{Seen}
@@ -99,6 +98,11 @@ pub seen-snoc : (number : ℕ) (ps : List ParameterAt) (q : ParameterAt)
 seen-snoc number [] q = rw (asked-snoc number [] q)
 seen-snoc number (p ∷ ps) q = rw (asked-snoc number (p ∷ ps) q, eqb·suc-zero (length ps))
 
+kept : (isAsked isFirst : Bool) (seen : Seen) (q : ParameterAt) → (isAsked || isFirst) ≡ false → seenWith seen isAsked isFirst q ≡ seen
+kept true isFirst seen q e = clash (cc)
+kept false true seen q e = clash (cc)
+kept false false seen q e = refl
+
 -- ---- the walk: parameters were passed from start up to a place
 
 pub record Walked (b : List ℕ) (start number at count : ℕ) (seen : Seen) : Type 0 where
@@ -129,6 +133,11 @@ module _ (b : List ℕ) (start number : ℕ) where
           below = omega (arith, w .below);
           answers = rw (w .answers, w .counted) (sym (seen-snoc number (w .passed) q));
         }
+
+    -- the same of one that is neither asked for nor the first, of which nothing is kept
+    pub passes : (q : ParameterAt) → at < length b → parameterAt b at ≡ whole (q .parameter) (q .next) → (eqb count number || eqb count 0) ≡ false
+        → Walked b start number (q .next) (count + 1) seen
+    passes q l e f = rw (kept (eqb count number) (eqb count 0) seen q f) at (moves q l e)
 
     -- to the end, and to a refusal
     pub stops : length b ≤ at → parameters.Whole seen ≡ parametersRead number (parametersAt turns b start)

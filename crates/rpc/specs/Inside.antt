@@ -1,10 +1,8 @@
--- Every part that a request answers lies in it. Rests on Rpc.
-use Prim.Native.Nat.{ℕ, _+_, _≤_}
+-- Every part that a request answers lies in it. Rests on Rpc and on cells' parts.
+use Prim.Native.Nat.{ℕ}
 use mathlib.Core.List.{List}
 use lib.ListN.{length}
-use Rattle.wire.specs.declared.Part.{Part}
-use Rattle.cells.specs.declared.Value.{Value}
-use Rattle.cells.specs.declared.Value.the-variants as value
+use Rattle.cells.specs.Inside.{PartIn, ValueIn}
 use Rattle.rpc.specs.declared.Procedure.{Procedure}
 use Rattle.rpc.specs.declared.Procedure.the-variants.{Name, Number}
 use Rattle.rpc.specs.declared.Parameter.{Parameter}
@@ -16,19 +14,11 @@ use Rattle.rpc.specs.declared.Rpc.{Rpc}
 use Rattle.rpc.specs.declared.Rpc.the-variants as rpc
 use Rattle.rpc.specs.Rpc.{rpcOf}
 
--- of n bytes
-abbrev pub PartIn : ℕ → Part → Type 0
-PartIn n part = part .start + part .len ≤ n
+-- ---- what is answered, where the request has n bytes
 
 abbrev pub ProcedureIn : ℕ → Procedure → Type 0
 ProcedureIn n (Name name) = PartIn n name
 ProcedureIn n (Number number) = Unit {0}
-
-abbrev pub ValueIn : ℕ → Value → Type 0
-ValueIn n (value.Number number) = Unit {0}
-ValueIn n (value.Part part) = PartIn n part
-ValueIn n (value.Max part) = PartIn n part
-ValueIn n value.Null = Unit {0}
 
 -- a parameter's name, collation and value
 abbrev pub ParameterIn : ℕ → Parameter → Type 0

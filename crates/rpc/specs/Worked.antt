@@ -5,7 +5,6 @@ use Prim.Native.Nat.{ℕ, _-_}
 use lib.IntN.{pos}
 use Rattle.wire.specs.Be.{be}
 use Rattle.wire.specs.declared.Part.{Part}
-use Rattle.cells.specs.declared.TypeInfo.{TypeInfo}
 use Rattle.cells.specs.declared.Value.{Value}
 use Rattle.cells.specs.declared.Value.the-variants as value
 use Rattle.rpc.specs.declared.Procedure.{Procedure}

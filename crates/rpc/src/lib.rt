@@ -216,7 +216,7 @@ enum ParametersRead {
     Refused(u8),
 }
 
-// The parameters from a place up to the body's end.
+// The parameters from a place up to the body's end. Of those that are neither asked for nor the first, nothing is kept.
 fn parameters_at(body: &[u8], start: usize, number: usize) -> ParametersRead
     ensures { λ r. ⌜ r ≡ parametersRead number (parametersAt (suc (length (now (body .entry)))) (now (body .entry)) start) ⌝ }
 {
@@ -232,7 +232,9 @@ fn parameters_at(body: &[u8], start: usize, number: usize) -> ParametersRead
                 return ParametersRead::Refused(n);
             },
             ParameterRead::Whole(read) => {
-                seen = seen_with(seen, count == number, count == 0, read);
+                if (count == number) | (count == 0) {
+                    seen = seen_with(seen, count == number, count == 0, read);
+                }
                 count += 1;
                 at = read.next;
             },

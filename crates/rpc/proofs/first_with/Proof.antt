@@ -1,5 +1,5 @@
 -- `rpc::first_with` meets its contract. Assumes nothing.
-use mathlib.Core.Path.{sym, ap, _∙_}
+use mathlib.Core.Path.{ap}
 use Rattle.rpc.specs.declared.Statement.the-variants as Statement
 use borrow.Author.Needs.{needs}
 use Rattle.rpc.proofs.first_with.Statement.{statement}

@@ -1,11 +1,12 @@
 -- `rpc::parameters_at` meets its contract. The loop's invariant: the parameters up to the place were passed, and what is left of the
 -- parameters is read from there. The measure is what is left of the body. Assumes nothing.
+use mathlib.Core.Path.{_∙_}
+use mathlib.Core.Logic.{⊎-elim}
 use Rattle.rpc.proofs.Told.{parameter-told}
 use Rattle.rpc.proofs.Inside.{parameter-onward}
-use Rattle.rpc.proofs.Walk.{Walked, begins, moves, stops, falls}
-use Prim.Native.Nat.{ℕ, suc, _+_, _-_, _*_, _≤_, _<_}
-use mathlib.Core.Path.{_≡_, refl, sym, ap, _∙_}
-use lib.ListN.{length, take, drop, getD}
+use Rattle.rpc.proofs.Walk.{Walked, begins, moves, passes, stops, falls}
+use Prim.Native.Nat.{_-_}
+use lib.ListN.{length}
 use native.Mathlib.Omega.{arith}
 use borrow.Author.Needs.{needs}
 use denote.Ref.{now}
@@ -43,7 +44,11 @@ loop-less : tie.Need-loop-less Inv-loop μ-loop
 loop-less c = let onto = parameter-onward (now (c .before .before .before .before .before .before .before .before .args .body)) (c .before .before .before .before .before .before .loop .at) (parameter-told _ (c .before .before .before .before .parameter-at .ensures) (c .before .before .read .given .1)) in omega arith
 
 loop-again : tie.Need-loop-again Inv-loop μ-loop
-loop-again c = rw (c .seen-with .ensures) (moves (now (c .before .before .before .before .before .before .before .before .args .body)) (c .before .before .before .before .before .before .before .before .args .start) (c .before .before .before .before .before .before .before .before .args .number) (c .before .before .before .before .before .before .loop .inv) (c .before .before .read .given .0 .0) (omega arith) (parameter-told _ (c .before .before .before .before .parameter-at .ensures) (c .before .before .read .given .1)))
+loop-again c = let told = parameter-told _ (c .before .before .before .before .parameter-at .ensures) (c .before .before .read .given .1) in
+    ⊎-elim
+    (λ w. rw (w .2 ∙ w .1 .ensures) (moves (now (c .before .before .before .before .before .before .before .before .args .body)) (c .before .before .before .before .before .before .before .before .args .start) (c .before .before .before .before .before .before .before .before .args .number) (c .before .before .before .before .before .before .loop .inv) (c .before .before .read .given .0 .0) (omega arith) told))
+    (λ w. rw (w .1) (passes (now (c .before .before .before .before .before .before .before .before .args .body)) (c .before .before .before .before .before .before .before .before .args .start) (c .before .before .before .before .before .before .before .before .args .number) (c .before .before .before .before .before .before .loop .inv) (c .before .before .read .given .0 .0) (omega arith) told (w .0 .left)))
+    (c .if1 .came)
 
 returns-2 : tie.Need-returns-2 Inv-loop μ-loop
 returns-2 c = stops (now (c .before .before .before .args .body)) (c .before .before .before .args .start) (c .before .before .before .args .number) (c .before .loop .inv) (omega arith)

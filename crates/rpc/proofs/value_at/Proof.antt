@@ -1,5 +1,5 @@
 -- `rpc::value_at` meets its contract. Assumes nothing.
-use mathlib.Core.Path.{sym, ap, _∙_}
+use mathlib.Core.Path.{sym, ap}
 use Rattle.payload.proofs.CodeReads.{then-got, then-not}
 use Rattle.cells.proofs.CodeReads.{cell-is, cell-is-not}
 use Rattle.rpc.specs.Rpc.{inValue, valueAt}

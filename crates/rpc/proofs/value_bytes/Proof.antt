@@ -1,5 +1,5 @@
 -- `rpc::value_bytes` meets its contract. Assumes nothing.
-use mathlib.Core.Path.{sym, ap, _∙_}
+use mathlib.Core.Path.{_∙_}
 use borrow.Author.Needs.{needs}
 use Rattle.rpc.proofs.value_bytes.Statement.{statement}
 use Rattle.rpc.proofs.value_bytes.Tie as tie
