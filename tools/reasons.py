@@ -8,7 +8,8 @@ import struct
 import script
 from script import CELL, CHUNK, COLUMN, INFO, LEADING_ERROR, ROW, SET, TERMINAL_ERROR, TRAILING_INFO
 
-# The causes of a script's and of a reply's refusals, in the words of docs/FORMATS.md, 'Refusals'; of 24 the first.
+# The causes of the refusals of a script, a reply and a procedure call, in the words of docs/FORMATS.md, 'Refusals'; of
+# 24 the first.
 CAUSES = {
     8: "under 8 bytes where a packet header is read",
     9: "a packet type other than 01, 03, 04, 06, 08, 0E, 10, 12",
@@ -26,6 +27,10 @@ CAUSES = {
     26: "a length, count or type within a token is wrong, or bytes follow the last DONE",
     27: "a set has over 128 columns",
     28: "a row where no columns came before in its set",
+    29: "a procedure call ends within its headers, its procedure or its flags",
+    30: "a parameter is cut, a length in its value is wrong, or `sp_executesql` has no parameter",
+    31: "a parameter's type or type length is not read, its status has bit 08, or FE or FF stands where its name would "
+        "begin",
 }
 MOST_NAME_UNITS, MOST_COLUMNS, MOST_TEXT_BYTES, MOST_INPUT = 255, 128, 8000, 65_536
 # A longer payload is cut here where it is shown.

@@ -26,6 +26,7 @@ ONE_EACH = (
     ("LOGIN_SLOTS", "crates/station/src/logins.rt", "LOGIN_SLOTS", 0),
     ("NO_BYTE", "crates/station/src/logins.rt", "NO_BYTE", 0),
     ("NO_ACK", "crates/station/src/build.rt", "NO_ACK", 0),
+    ("RPC_EXECUTESQL", "crates/rpc/src/lib.rt", "SP_EXECUTESQL", 0),
     ("POSITION_SLOTS", "crates/reader/src/lib.rt", "MAX_COLUMNS", 5),
     ("DONE_MORE", "crates/reader/src/lib.rt", "MORE", 0),
     ("DONE_ERROR", "crates/response/src/lib.rt", "DONE_ERROR", 0),

@@ -1,4 +1,4 @@
-"""The list of calls and the Rust's answers (tests/vectors/list.txt) as lines for `calls`, with what must be printed.
+"""The list of calls and the oracle's answers (tests/vectors/list.txt) as lines for `calls`, with what must be printed.
 
 A case is a line and what its answer must be: a text, or a function that says of the answer printed whether it is right.
 Each line of the list becomes several: as it stands, and with lent slices that are exact, longer, one short, and empty.
@@ -8,9 +8,12 @@ import re
 # The macro that counts the slots of `out`, for each export that has some.
 SLOTS = {
     "parse_header": "HEADER", "text": "TEXT", "parse_sql_batch": "PART", "parse_fedauth_token": "PART",
-    "parse_transaction_descriptor_header": "DESCRIPTOR", "parse_login7": "LOGIN", "database": "PART", "fit": "FIT",
+    "parse_transaction_descriptor_header": "DESCRIPTOR", "parse_rpc_request": "RPC", "parse_login7": "LOGIN",
+    "database": "PART", "fit": "FIT",
 }
 MISFITS = {"class": 1, "column": 2, "cell": 3}
+VALUES = {"null": 0, "num": 1, "part": 2, "max": 3}
+NO_PART = 2**64 - 1
 SPARE_ROOM = 32
 HEADER_BYTES = 8
 TOO_SHORT = "-20"
@@ -48,6 +51,8 @@ class Listed:
             yield f"{name}", "an export of the header"
         elif name == "parse_login7":
             yield from self.login(arguments, answer)
+        elif name == "parse_rpc_request":
+            yield from self.procedure(arguments, answer)
         elif name == "database":
             yield from self.database(*map(expanded, arguments), expanded(answer))
         elif name in ("room", "fit", "parse_transaction_manager_request", "is_whitespace"):
@@ -87,6 +92,15 @@ class Listed:
             yield f"parse_login7 i:{body} d:{lent} o:{size}", TOO_SHORT
         if count:
             yield f"parse_login7 i:{body} d:{count - 1} o:{enough[0]}", TOO_SHORT
+
+    def procedure(self, arguments, answer):
+        call = f"parse_rpc_request i:{expanded(arguments[1])} n:{arguments[0]}"
+        enough, few = sizes(self.slots["parse_rpc_request"])
+        refused = answer.replace("refused ", "-") if answer.startswith("refused") else None
+        for size in enough:
+            yield f"{call} o:{size}", refused or f"0 {slots(procedure_slots(answer.split()))}"
+        for size in few:
+            yield f"{call} o:{size}", refused or TOO_SHORT
 
     def database(self, fallback, body, text):
         def right(said):
@@ -145,6 +159,26 @@ class Listed:
             yield f"{call} b:{size}", f"{len(held) // 2} b:{held}"
         for size in few:
             yield f"{call} b:{size}", TOO_SHORT
+
+
+def procedure_slots(words):
+    """The slots of a stored procedure call."""
+    if words[0] == "name":
+        procedure, (flags, *words) = [1, *words[1:3], 0], words[3:]
+    else:
+        procedure, (flags, *words) = [0, 0, 0, words[1]], words[2:]
+    statement = [NO_PART, 0]
+    if words[0] == "statement":
+        statement, words = words[1:3], words[3:]
+    return [*procedure, flags, *statement, *([0] * 12 if words == ["none"] else parameter_slots(*words[1:]))]
+
+
+def parameter_slots(*words):
+    """The slots of a parameter: name, status, type and collation, then case, number and part of its value."""
+    *info, kind = words[:8]
+    number = int(words[8]) % 2**64 if kind == "num" else 0
+    part = words[8:] if kind in ("part", "max") else [0, 0]
+    return [1, *info, VALUES[kind], number, *part]
 
 
 def misfit(words):

@@ -1,15 +1,15 @@
 /* Prints what calls answer by the names of the header's slots, in the lines of `answer many CALL`: CALL is `header`,
- * `login`, `descriptor`, `fedauth` or `fit`, or `text`, which prints a text's four counts. Inputs come from standard
- * input, each a length of 4 bytes, the lower byte first, and its bytes. */
+ * `login`, `descriptor`, `fedauth`, `rpc` or `fit`, or `text`, which prints a text's four counts. Inputs come from
+ * standard input, each a length of 4 bytes, the lower byte first, and its bytes. */
 #include "station.h"
 
 #include <inttypes.h>
 #include <stdio.h>
 #include <string.h>
 
-enum { MOST = 1 << 18 };
+enum { MOST = 1 << 18, NUMBER = 4 };
 static uint8_t input[MOST], ids[MOST];
-static uint64_t out[STATION_LOGIN_SLOTS];
+static uint64_t out[STATION_RPC_SLOTS];
 
 static void print_refused(int64_t answer)
 {
@@ -87,6 +87,96 @@ static void fedauth(size_t length)
         printf("token %" PRIu64 " %" PRIu64 "\n", out[STATION_PART_START], out[STATION_PART_LENGTH]);
 }
 
+static size_t number_at(const uint8_t *bytes)
+{
+    return bytes[0] | (size_t)bytes[1] << 8 | (size_t)bytes[2] << 16 | (size_t)bytes[3] << 24;
+}
+
+static void print_hex(const uint8_t *bytes, uint64_t length)
+{
+    for (uint64_t i = 0; i < length; i++)
+        printf("%02X", (unsigned)bytes[i]);
+}
+
+/* The bytes of a part, or `-` where it has none. */
+static void print_bytes(const uint8_t *body, uint64_t start, uint64_t length)
+{
+    printf("%s", length ? "" : "-");
+    print_hex(body + start, length);
+}
+
+static void print_held(const char *name, const uint8_t *body, uint64_t start, uint64_t length)
+{
+    printf("%s %" PRIu64 " %" PRIu64 " ", name, start, length);
+    print_bytes(body, start, length);
+}
+
+/* The bytes of a Max part's chunks, joined. */
+static void print_chunks(const uint8_t *body, uint64_t start)
+{
+    size_t length = number_at(body + start);
+
+    printf("%s", length ? "" : "-");
+    for (; length; start += 4 + length, length = number_at(body + start))
+        print_hex(body + start + 4, length);
+}
+
+static void print_value(const uint8_t *body)
+{
+    uint64_t start = out[STATION_RPC_VALUE_START], length = out[STATION_RPC_VALUE_LENGTH];
+
+    if (out[STATION_RPC_VALUE_CASE] == STATION_CASE_NUMBER) {
+        printf("num %" PRId64 "\n", (int64_t)out[STATION_RPC_VALUE_NUMBER]);
+        return;
+    }
+    if (out[STATION_RPC_VALUE_CASE] == STATION_CASE_NULL) {
+        printf("null\n");
+        return;
+    }
+    printf("part ");
+    if (out[STATION_RPC_VALUE_CASE] == STATION_CASE_MAX)
+        print_chunks(body, start);
+    else
+        print_bytes(body, start, length);
+    printf(" @%" PRIu64 "+%" PRIu64 "\n", start, length);
+}
+
+static void print_parameter(const uint8_t *body)
+{
+    if (!out[STATION_RPC_FOUND]) {
+        printf("param none\n");
+        return;
+    }
+    print_held("param", body, out[STATION_RPC_PARAMETER_NAME_START], out[STATION_RPC_PARAMETER_NAME_LENGTH]);
+    printf(" status %02X type %02X %" PRIu64 " ", (unsigned)out[STATION_RPC_PARAMETER_STATUS],
+           (unsigned)out[STATION_RPC_PARAMETER_CODE], out[STATION_RPC_PARAMETER_LENGTH]);
+    print_bytes(body, out[STATION_RPC_PARAMETER_COLLATION_START], out[STATION_RPC_PARAMETER_COLLATION_LENGTH]);
+    printf("\n");
+    print_value(body);
+}
+
+/* An input is the number of the asked parameter, then the request. */
+static void rpc(size_t length)
+{
+    const uint8_t *body = input + NUMBER;
+    int64_t answer = station_parse_rpc_request(body, length - NUMBER, number_at(input), out, STATION_RPC_SLOTS);
+
+    if (answer < 0) {
+        print_refused(answer);
+        return;
+    }
+    if (out[STATION_RPC_NAMED])
+        print_held("proc name", body, out[STATION_RPC_NAME_START], out[STATION_RPC_NAME_LENGTH]);
+    else
+        printf("proc number %" PRIu64, out[STATION_RPC_NUMBER]);
+    printf("\nflags %04X\n", (unsigned)out[STATION_RPC_FLAGS]);
+    if (out[STATION_RPC_STATEMENT_START] != STATION_NO_PART) {
+        print_held("statement", body, out[STATION_RPC_STATEMENT_START], out[STATION_RPC_STATEMENT_LENGTH]);
+        printf("\n");
+    }
+    print_parameter(body);
+}
+
 static void fit(size_t length)
 {
     int64_t answer = station_fit(input, length, out, STATION_FIT_SLOTS);
@@ -119,7 +209,7 @@ static const struct {
     const char *name;
     void (*print)(size_t length);
 } calls[] = {{"header", header}, {"login", login}, {"descriptor", descriptor},
-             {"fedauth", fedauth}, {"fit", fit}, {"text", text}};
+             {"fedauth", fedauth}, {"rpc", rpc}, {"fit", fit}, {"text", text}};
 
 int main(int count, char **words)
 {
@@ -131,7 +221,7 @@ int main(int count, char **words)
     if (call == sizeof calls / sizeof calls[0])
         return 2;
     while (fread(head, 1, 4, stdin) == 4) {
-        length = head[0] | (size_t)head[1] << 8 | (size_t)head[2] << 16 | (size_t)head[3] << 24;
+        length = number_at(head);
         if (length > MOST || fread(input, 1, length, stdin) != length)
             return 2;
         calls[call].print(length);

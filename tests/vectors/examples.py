@@ -3,7 +3,7 @@ import collections
 import pathlib
 
 FILE = pathlib.Path(__file__).resolve().parent / "examples.txt"
-HEADER = 8
+HEADER, NUMBER = 8, 4
 
 # section and title, the bytes, `answer`'s lines by call, tshark's values by field
 Example = collections.namedtuple("Example", "name held answers shown")
@@ -31,7 +31,14 @@ def add(example, line):
 
 
 def given(call, held):
-    """What a call gets: the header's bytes, the whole packet, or what follows the header."""
+    """What a call gets: the header's bytes, the whole packet, or what follows it; `rpc` a number, 0, and that."""
     if call == "header":
         return bytes(held[:HEADER])
+    if call == "rpc":
+        return bytes(NUMBER) + bytes(held[HEADER:])
     return bytes(held) if call == "tokens" else bytes(held[HEADER:])
+
+
+def asked(given):
+    """The number and the body that `rpc` gets."""
+    return int.from_bytes(given[:NUMBER], "little"), given[NUMBER:]

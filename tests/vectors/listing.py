@@ -13,8 +13,10 @@ FUNCTIONS = {
     "descriptor": "parse_transaction_descriptor_header",
     "fedauth": "parse_fedauth_token",
     "login": "parse_login7",
+    "rpc": "parse_rpc_request",
     "tokens": "tokens",
 }
+INTN = 0x26
 
 
 def line(name, given, answer):
@@ -84,6 +86,33 @@ def of_login(lines):
     return " ".join([*(held[name] for name in names), count, *map(str, bytes.fromhex(ids.strip("-")))])
 
 
+def of_rpc(lines):
+    return " ".join(map(rpc_words, lines))
+
+
+def rpc_words(shown):
+    """The words of a line: numbers decimal, a part as start and length."""
+    kind, *words = shown.split()
+    if kind == "proc":
+        return " ".join(words[:3])
+    if kind == "flags":
+        return str(int(words[0], 16))
+    if kind == "statement":
+        return " ".join([kind, *words[:2]])
+    if kind == "param":
+        return "none" if words == ["none"] else parameter(words)
+    return token(shown)
+
+
+def parameter(words):
+    """A parameter's words. Its collation, or the empty part in its place, stands behind its type's length."""
+    start, length, _, _, status, _, code, limit, collation = words
+    status, code = int(status, 16), int(code, 16)
+    place = int(start) + int(length) + 2 + (1 if code == INTN else 2)
+    numbers = [start, length, status, code, limit, place, len(collation.strip("-")) // 2]
+    return " ".join(map(str, ["param", *numbers]))
+
+
 def of_tokens(lines):
     return " ".join(token(each) for each in lines)
 
@@ -109,5 +138,6 @@ WORDS = {
     "descriptor": of_descriptor,
     "fedauth": of_part,
     "login": of_login,
+    "rpc": of_rpc,
     "tokens": of_tokens,
 }

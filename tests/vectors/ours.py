@@ -15,7 +15,8 @@ ARCHIVE = ROOT / "target/staticlib/libstation.a"
 PROTOTYPE = re.compile(r"^int64_t station_(\w+)\((.*?)\);", re.M | re.S)
 NUMBERS = {"uint8_t": ctypes.c_uint8, "uint16_t": ctypes.c_uint16, "uint32_t": ctypes.c_uint32,
            "uint64_t": ctypes.c_uint64, "bool": ctypes.c_bool}
-SLOTS, UNTOUCHED = 16, 0xA5A5A5A5A5A5A5A5
+SLOTS, UNTOUCHED = 24, 0xA5A5A5A5A5A5A5A5
+NO_PART = 2**64 - 1
 # The bytes of a packet header, and the bits of its status that the list has after its slots.
 HEADER = 8
 END_OF_MESSAGE, IGNORE = 1, 2
@@ -71,7 +72,7 @@ class Ours:
         lent = HEADER if name == "write_header" else 0
         if name.startswith("build_") or name == "parse_login7":
             lent = int(words.pop(0))
-        if name == "database":
+        if name in ("database", "parse_rpc_request"):
             words.reverse()
         if name == "is_whitespace":
             words = [str(int.from_bytes(bytes_of(words[0]), "little"))]
@@ -103,9 +104,31 @@ class Ours:
             slots += [number, *room.raw[:number]]
         if name == "fit":
             return MISFITS[slots[0]](slots) if number else "fits"
+        if name == "parse_rpc_request":
+            return procedure(*slots)
         return " ".join(map(str, slots)) or ("none" if name.endswith("descriptor_header") else str(number))
 
 
+def procedure(named, start, length, number, flags, statement, statement_length, found, *parameter):
+    """A stored procedure call."""
+    words = ["name", start, length] if named else ["number", number]
+    words.append(flags)
+    if statement != NO_PART:
+        words += ["statement", statement, statement_length]
+    if not found:
+        return " ".join(map(str, [*words, "none"]))
+    *info, case, bits, place, size = parameter
+    value = VALUES[case](ctypes.c_int64(bits).value, [place, size])
+    return " ".join(map(str, [*words, "param", *info, *value]))
+
+
+# A value by its case: of its number and its part.
+VALUES = {
+    0: lambda number, part: ["null"],
+    1: lambda number, part: ["num", number],
+    2: lambda number, part: ["part", *part],
+    3: lambda number, part: ["max", *part],
+}
 # A misfit by its kind: class SET, column SET COLUMN, cell SET ROW COLUMN; the slots are kind, set, row, column.
 MISFITS = {
     1: lambda slots: f"class {slots[1]}",

@@ -58,6 +58,16 @@ impl<'a> Draw<'a> {
         u64::from_le_bytes(self.number())
     }
 
+    /// A byte that is the value, or that says how many bytes of it follow.
+    pub fn value(&mut self) -> u64 {
+        match self.byte() {
+            small @ 0..0xF0 => small.into(),
+            0xF0..0xF8 => self.u32().into(),
+            0xF8..0xFF => self.u64(),
+            0xFF => u64::MAX,
+        }
+    }
+
     /// A string: a byte whose lower half says how many bytes come as they are, and its next three
     /// bits how many come after them to be repeated, as often as the two bytes after those say.
     pub fn bytes(&mut self) -> Vec<u8> {

@@ -35,6 +35,7 @@ include!(concat!(env!("OUT_DIR"), "/rust_modules.rs"));
 
 mod compact;
 pub mod mutate;
+mod procedures;
 mod reading;
 mod replies;
 mod steps;

@@ -1,11 +1,12 @@
 //! Mutations that keep an input's shape: of a script record by record with right lengths, of a login
-//! with its table of offsets and its features; at times another input of the oracle's. Half of all
-//! mutations are libFuzzer's own, on the bytes.
+//! with its table of offsets and its features, of a procedure call parameter by parameter; at times
+//! another input of the oracle's. Half of all mutations are libFuzzer's own, on the bytes.
 
 use crate::answers::reply::reply;
 use crate::inputs::login::{random_feature, random_login, scattered_login};
 use crate::inputs::request::*;
 use crate::inputs::script::{damaged, random_record, random_script};
+use crate::procedures;
 use crate::random::Random;
 use crate::script::records::{self, Record};
 
@@ -21,6 +22,7 @@ pub fn mutated(target: &str, input: &[u8], most: usize, seed: u64, own: Own) -> 
         "login" => Some(login(&mut random, input)),
         "request" if random.one_in(8) => Some(request(&mut random)),
         "steps" if random.one_in(8) => another_reply(&mut random),
+        "rpc" if random.one_in(2) => procedure(&mut random, input),
         _ => None,
     };
     shaped.filter(|bytes| bytes.len() <= most).unwrap_or_else(|| own(input, most))
@@ -82,6 +84,21 @@ fn request(random: &mut Random) -> Vec<u8> {
 fn another_reply(random: &mut Random) -> Option<Vec<u8>> {
     let reply = reply(&records::written(&random_script(random))).ok()?;
     Some([&[0x01, 0x00], &reply[..]].concat())
+}
+
+/// The procedure call with a whole parameter taken away, repeated, or put before another one.
+fn procedure(random: &mut Random, input: &[u8]) -> Option<Vec<u8>> {
+    let ends = procedures::ends(input);
+    let place = random.below(ends.len().checked_sub(1).filter(|count| *count > 0)?);
+    let (start, end) = (ends[place], ends[place + 1]);
+    let mut changed = input.to_vec();
+    if random.one_in(3) {
+        changed.drain(start..end);
+    } else {
+        let other = random.pick(&ends);
+        changed.splice(other..other, input[start..end].to_vec());
+    }
+    Some(changed)
 }
 
 /// The login with a table entry or the place of its features moved, or with a feature more; at times

@@ -20,7 +20,7 @@ const MOST_COLUMNS: u64 = 128;
 const NOT_A_REPLY: u8 = 23;
 const CUT: u8 = 24;
 const UNKNOWN_TOKEN: u8 = 25;
-const WRONG: u8 = 26;
+pub const WRONG: u8 = 26;
 const TOO_MANY_COLUMNS: u8 = 27;
 const NO_COLUMNS: u8 = 28;
 
@@ -30,7 +30,7 @@ const UNKNOWN_TOTAL: u64 = u64::MAX - 1;
 
 pub type Position = [u64; POSITION];
 pub type Token = [u64; TOKEN];
-type Read<T> = Result<T, u8>;
+pub type Read<T> = Result<T, u8>;
 
 /// The position of a reader that has read nothing: the place after the header.
 pub fn fresh() -> Position {
@@ -129,19 +129,25 @@ fn move_on(position: &mut Position, token: &Token) {
 }
 
 fn column(cursor: &mut Cursor) -> Read<Token> {
-    let (user, flags, code) = (cursor.number(4)?, cursor.number(2)?, cursor.number(1)?);
-    must(matches!(code, 0x26 | 0xE7 | 0xA7 | 0xA5), WRONG)?;
-    let limit = cursor.number(if code == 0x26 { 1 } else { 2 })?;
-    must(is_type(code << 16 | limit), WRONG)?;
-    let collation = cursor.part(if matches!(code, 0xE7 | 0xA7) { 5 } else { 0 })?;
+    let (user, flags) = (cursor.number(4)?, cursor.number(2)?);
+    let [code, limit, collation, collation_length] = type_info(cursor)?;
     let units = cursor.number(1)?;
-    let name = cursor.part(2 * units)?;
-    let [[collation, collation_length], [name, length]] = [collation, name];
+    let [name, length] = cursor.part(2 * units)?;
     Ok(token(&[0x01, user, flags, code, limit, collation, collation_length, name, length]))
 }
 
+/// A type: its code, its length, and its collation's start and length.
+pub fn type_info(cursor: &mut Cursor) -> Read<[u64; 4]> {
+    let code = cursor.number(1)?;
+    must(matches!(code, 0x26 | 0xE7 | 0xA7 | 0xA5), WRONG)?;
+    let limit = cursor.number(if code == 0x26 { 1 } else { 2 })?;
+    must(is_type(code << 16 | limit), WRONG)?;
+    let [start, length] = cursor.part(if matches!(code, 0xE7 | 0xA7) { 5 } else { 0 })?;
+    Ok([code, limit, start, length])
+}
+
 /// A cell of a column's type: null, a number, a part, or the part of all chunks.
-fn cell(cursor: &mut Cursor, held: u64) -> Read<Token> {
+pub fn cell(cursor: &mut Cursor, held: u64) -> Read<Token> {
     let (code, limit) = (held >> 16, held & 0xFFFF);
     let (case, value) = match (code, limit) {
         (0x26, width) => integer(cursor, width)?,
@@ -225,25 +231,25 @@ fn token(fields: &[u64]) -> Token {
     token
 }
 
-fn must(holds: bool, number: u8) -> Read<()> {
+pub fn must(holds: bool, number: u8) -> Read<()> {
     if holds { Ok(()) } else { Err(number) }
 }
 
 /// A place in a packet, from which fields are taken: 24 where they do not end in it.
-struct Cursor<'a> {
-    packet: &'a [u8],
-    place: usize,
+pub struct Cursor<'a> {
+    pub packet: &'a [u8],
+    pub place: usize,
 }
 
 impl Cursor<'_> {
-    fn number(&mut self, size: u64) -> Read<u64> {
+    pub fn number(&mut self, size: u64) -> Read<u64> {
         let [start, _] = self.part(size)?;
         let bytes = &self.packet[start as usize..self.place];
         Ok(bytes.iter().rev().fold(0, |number, byte| number << 8 | u64::from(*byte)))
     }
 
     /// Start and length of so many bytes.
-    fn part(&mut self, size: u64) -> Read<[u64; 2]> {
+    pub fn part(&mut self, size: u64) -> Read<[u64; 2]> {
         let start = self.place;
         must(size <= (self.packet.len() - start) as u64, CUT)?;
         self.place += size as usize;

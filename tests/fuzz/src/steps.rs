@@ -40,20 +40,10 @@ pub fn compare_one(input: &[u8], wall: &mut Wall) -> Vec<Check> {
 /// The slots that are forged, and their values.
 fn forged(draw: &mut Draw, form: u8) -> Vec<(usize, u64)> {
     if form & ALL != 0 {
-        let value = value(draw);
+        let value = draw.value();
         return (0..POSITION).map(|slot| (slot, value)).collect();
     }
-    (0..form >> 1 & 7).map(|_| (usize::from(draw.byte()) % POSITION, value(draw))).collect()
-}
-
-/// A byte that is the value, or that says how many bytes of it follow.
-fn value(draw: &mut Draw) -> u64 {
-    match draw.byte() {
-        small @ 0..0xF0 => small.into(),
-        0xF0..0xF8 => draw.u32().into(),
-        0xF8..0xFF => draw.u64(),
-        0xFF => u64::MAX,
-    }
+    (0..form >> 1 & 7).map(|_| (usize::from(draw.byte()) % POSITION, draw.value())).collect()
 }
 
 /// The rest of an input: a packet, or the payload of one whose header is that of a reply.

@@ -1,8 +1,10 @@
-//! The targets by name: what an input stands for, and the calls by which it is held against the Rust.
+//! The targets by name: what an input stands for, and the calls by which it is held against the Rust or a
+//! second reader.
 
 use crate::compact::Draw;
 use crate::compare::Check;
 use crate::groups::{header, login, request, result, text};
+use crate::procedures;
 use crate::replies;
 use crate::script::records;
 use crate::steps;
@@ -10,8 +12,8 @@ use crate::wall::Wall;
 
 /// script: a script's bytes. records: a script of right lengths, in the compact form. login: a
 /// login's body. request: a body or payload for all other readers. response: a choice and arguments.
-/// steps: a packet, and slots of a position.
-pub const NAMES: [&str; 6] = ["script", "records", "login", "request", "response", "steps"];
+/// steps: a packet, and slots of a position. rpc: a number, and the body of a procedure call.
+pub const NAMES: [&str; 7] = ["script", "records", "login", "request", "response", "steps", "rpc"];
 
 pub struct Target {
     name: &'static str,
@@ -25,8 +27,8 @@ impl Target {
         Some(Self { name, walls: [(); 3].map(|()| Wall::new()) })
     }
 
-    /// Holds the answers to the input against the Rust's. Differences are printed; the counts have
-    /// them too.
+    /// Holds the answers to the input against the Rust's or a second reader's. Differences are
+    /// printed; the counts have them too.
     pub fn compare(&mut self, input: &[u8]) -> Vec<Check> {
         let wall = &mut self.walls[0];
         match self.name {
@@ -35,6 +37,7 @@ impl Target {
             "login" => login::compare_one(wall.lend(input)),
             "request" => read(wall.lend(input)),
             "steps" => steps::compare_one(input, wall),
+            "rpc" => procedures::compare_one(input, wall),
             _ => replies::compare_one(input, &mut self.walls),
         }
     }

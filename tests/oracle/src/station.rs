@@ -74,6 +74,7 @@ exports! {
     station_parse_fedauth_token(payload: bytes, out: slots);
     station_parse_transaction_manager_request(body: bytes);
     station_parse_transaction_descriptor_header(body: bytes, out: slots);
+    station_parse_rpc_request(body: bytes, number: u64, out: slots);
 
     "login":
     station_parse_login7(body: bytes, ids: buffer, out: slots);
