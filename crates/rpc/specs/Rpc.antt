@@ -117,6 +117,7 @@ abbrev pub runsStatement : Procedure → Bool
 runsStatement (Name name) = false
 runsStatement (Number n) = eqb n 10
 
+-- no parameter at all
 abbrev pub isEmpty : List ParameterAt → Bool
 isEmpty [] = true
 isEmpty (p ∷ ps) = false
@@ -156,6 +157,7 @@ bytesTo limit (value.Part part) end = part
 bytesTo limit (value.Max part) end = part
 bytesTo limit value.Null end = partTo end end
 
+-- the value bytes of a parameter: its value ends where it does
 abbrev pub valueBytes : ParameterAt → Part
 valueBytes p = bytesTo (p .parameter .info .limit) (p .parameter .value) (p .next)
 

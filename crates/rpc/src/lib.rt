@@ -70,6 +70,7 @@ pub enum Statement {
     Missing,
 }
 
+// What is answered of a call: one parameter, and of sp_executesql the statement.
 pub struct Call {
     pub procedure: Procedure,
     pub flags: u16,
@@ -77,6 +78,7 @@ pub struct Call {
     pub statement: Statement,
 }
 
+// What a request comes to.
 pub enum Rpc {
     Call(Call),
     Refused(u8),
