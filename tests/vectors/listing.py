@@ -105,7 +105,7 @@ def rpc_words(shown):
 
 
 def parameter(words):
-    """A parameter's words. Its collation, or the empty part in its place, stands behind its type's length."""
+    """A parameter's words. Its collation, or the empty part in its place, stands after its type's length."""
     start, length, _, _, status, _, code, limit, collation = words
     status, code = int(status, 16), int(code, 16)
     place = int(start) + int(length) + 2 + (1 if code == INTN else 2)
