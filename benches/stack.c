@@ -3,7 +3,8 @@
  *
  * Every export is called on every input: a demanding one of each kind, all its prefixes, and it with each byte changed
  * in turn; with room to answer and without; on two paints, since a byte may be written that looks like one of them. The
- * reply of a script is stepped over to its end, and so is the reply with each byte changed in turn. */
+ * reply of a script is stepped over to its end, and so is the reply with each byte changed in turn, and the reply in
+ * packets. */
 #include <stdio.h>
 #include <stdlib.h>
 #include <string.h>
@@ -37,7 +38,8 @@ __asm__("call_on:\n"
         "    ret\n");
 
 /* An export and its parameters in order: i the input, t a text, b the lent buffer, d the lent ids, o the lent slots,
- * p the lent position (each a pointer and a length), f a bool, c a number of one byte, n another number. */
+ * p the lent position (each a pointer and a length), f a bool, c a number of one byte, s the least packet
+ * size, n another number. */
 struct export {
     const char *name;
     void (*function)(void);
@@ -63,10 +65,13 @@ static struct export exports[] = {
     EXPORT(station_build_query_result, "ib"),
     EXPORT(station_build_query_result_with_trailing_info, "ib"),
     EXPORT(station_build_query_result_with_extras, "ib"),
+    EXPORT(station_build_query_results_in_packets, "isb"),
+    EXPORT(station_cut_payload, "isb"),
     EXPORT(station_room, "i"),
     EXPORT(station_fit, "io"),
     EXPORT(station_fresh, "p"),
     EXPORT(station_step, "ipo"),
+    EXPORT(station_payload, "ib"),
     EXPORT(station_build_prelogin_response, "b"),
     EXPORT(station_build_prelogin_response_with_encryption, "fb"),
     EXPORT(station_build_prelogin_response_with_fedauth, "ffb"),
@@ -97,7 +102,7 @@ enum { EXPORTS = sizeof exports / sizeof exports[0] };
 static const uint8_t TEXT[] = {0x61, 0x00, 0xE9, 0x00, 0xAC, 0x20, 0x3D, 0xD8, 0x00, 0xDE};
 
 static _Alignas(16) uint8_t stack[STACK];
-static uint8_t buffer[65535], ids[65535];
+static uint8_t buffer[STATION_MOST_PACKETS], ids[65535];
 static uint64_t slots[MOST_SLOTS], position[STATION_POSITION_SLOTS];
 
 static void lend(uint64_t *arguments, size_t *count, const void *place, size_t length)
@@ -119,6 +124,7 @@ static void fill(uint64_t *arguments, const char *parameters, const uint8_t *inp
         case 'd': lend(arguments, &count, ids, room ? sizeof ids : 0); break;
         case 'o': lend(arguments, &count, slots, room ? MOST_SLOTS : 0); break;
         case 'p': lend(arguments, &count, position, room ? STATION_POSITION_SLOTS : 0); break;
+        case 's': arguments[count++] = STATION_LEAST_PACKET_SIZE; break;
         case 'f': arguments[count++] = number & 1; break;
         case 'c': arguments[count++] = number & 0xFF; break;
         default: arguments[count++] = number;
@@ -206,11 +212,14 @@ static void call_changed(const uint8_t *input, size_t length, void (*calls)(cons
         }
 }
 
-/* An input, its prefixes, and it with each byte changed; where it is a script, its reply too. */
+/* An input, its prefixes, and it with each byte changed; where it is a script, its reply too, in one packet and in
+ * more. */
 static void call_variants(const uint8_t *input, size_t length)
 {
-    uint8_t reply[INPUT];
+    uint8_t reply[INPUT], packets[INPUT];
     int64_t written = station_build_query_results(input, length, reply, sizeof reply);
+    size_t size = STATION_LEAST_PACKET_SIZE;
+    int64_t cut = station_build_query_results_in_packets(input, length, size, packets, sizeof packets);
 
     for (size_t shorter = 0; shorter <= length; shorter++)
         call_all(input, shorter);
@@ -218,6 +227,10 @@ static void call_variants(const uint8_t *input, size_t length)
     if (written > 0) {
         call_steps(reply, (size_t)written);
         call_changed(reply, (size_t)written, call_steps);
+    }
+    if (cut > 0) {
+        call_all(packets, (size_t)cut);
+        call_steps(packets, (size_t)cut);
     }
 }
 

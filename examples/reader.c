@@ -1,5 +1,5 @@
-/* Reads a reply packet from standard input and prints its tokens, a line each, with texts as letters; last `end`, or
- * the refusal in words. The exit status is 0 at the end and 1 where the packet is refused.
+/* Reads a reply from standard input, its packets one after another, and prints its tokens, a line each, with texts as
+ * letters; last `end`, or the refusal in words. The exit status is 0 at the end and 1 where the reply is refused.
  *
  *     reader < examples/one-row.packet
  */
@@ -8,8 +8,10 @@
 
 #include "station.h"
 
-/* What is kept between steps: the packet, its columns' types, and the column of the next cell. */
-static uint8_t packet[STATION_MOST_REPLY + 1];
+/* What is kept between steps: the packets, their payloads joined, of which tokens name parts, the types of a set's
+ * columns, and the column of the next cell. */
+enum { MOST = 2 * STATION_MOST_REPLY };
+static uint8_t packets[MOST], payload[MOST];
 static uint64_t codes[128];
 static size_t columns_read, next_cell;
 
@@ -37,7 +39,7 @@ static void print_character(uint32_t c)
 
 static uint32_t unit_at(size_t at)
 {
-    return (uint32_t)(packet[at] | packet[at + 1] << 8);
+    return (uint32_t)(payload[at] | payload[at + 1] << 8);
 }
 
 /* UTF-16 as letters. A text of a reply need not be UTF-16: half a pair is printed as `?`. */
@@ -58,7 +60,7 @@ static void print_letters(size_t at, size_t end)
     }
 }
 
-/* A part of the packet: its start and its length stand in two slots. */
+/* A part of the payload: its start and its length stand in two slots. */
 static void print_text(const uint64_t *part)
 {
     printf(" \"");
@@ -81,9 +83,9 @@ static void print_chunk(uint64_t code, size_t at, size_t length)
     }
     for (size_t i = at; i < at + length; i++)
         if (code == 0xA5)
-            printf("%02X", (unsigned)packet[i]);
+            printf("%02X", (unsigned)payload[i]);
         else
-            putchar(packet[i] < 0x80 ? packet[i] : '?');
+            putchar(payload[i] < 0x80 ? payload[i] : '?');
 }
 
 /* A Max value: its chunks, the last of length 0. Letters of E7, ASCII letters of A7, bytes of A5. */
@@ -187,9 +189,11 @@ static void print_token(const uint64_t *out)
 static const char *words_of(int64_t refusal)
 {
     switch (refusal) {
-    case STATION_HEADER_TOO_SHORT: return "the packet has under 8 bytes";
-    case STATION_UNKNOWN_PACKET_TYPE: return "the type of the packet is unknown";
-    case STATION_NOT_A_REPLY: return "the packet is not of type 04, not ended, or not as long as its header says";
+    case STATION_HEADER_TOO_SHORT: return "a packet's header has under 8 bytes";
+    case STATION_UNKNOWN_PACKET_TYPE: return "the type of a packet is unknown";
+    case STATION_NOT_A_REPLY: return "a packet is not of type 04, or its length is under 9 or past the bytes";
+    case STATION_NOT_THE_NEXT: return "a packet's number is not the next";
+    case STATION_END_BIT_WRONG: return "bytes follow the end bit, or there is none";
     case STATION_CUT: return "the reply is cut";
     case STATION_UNKNOWN_TOKEN: return "a byte begins no token";
     case STATION_INNER_WRONG: return "a length or a type is wrong, or bytes follow the last DONE";
@@ -199,15 +203,25 @@ static const char *words_of(int64_t refusal)
     }
 }
 
-int main(void)
+/* Prints the tokens of packets whose payload is joined; the answer of the last step. */
+static int64_t print_tokens(size_t length)
 {
     uint64_t position[STATION_POSITION_SLOTS], out[STATION_STEP_SLOTS];
-    size_t length = fread(packet, 1, sizeof packet, stdin);
     int64_t answer;
 
     station_fresh(position, STATION_POSITION_SLOTS);
-    while ((answer = station_step(packet, length, position, STATION_POSITION_SLOTS, out, STATION_STEP_SLOTS)) == 1)
+    while ((answer = station_step(packets, length, position, STATION_POSITION_SLOTS, out, STATION_STEP_SLOTS)) == 1)
         print_token(out);
+    return answer;
+}
+
+int main(void)
+{
+    size_t length = fread(packets, 1, sizeof packets, stdin);
+    int64_t answer = station_payload(packets, length, payload, sizeof payload);
+
+    if (answer >= 0)
+        answer = print_tokens(length);
     if (answer == 0) {
         printf("end\n");
         return 0;

@@ -29,11 +29,12 @@ extern "C" {
 #endif
 
 /* The version of these calls (CHANGELOG.md). An answer that changes changes the version. */
-#define STATION_VERSION_MAJOR 1
-#define STATION_VERSION_MINOR 1
+#define STATION_VERSION_MAJOR 2
+#define STATION_VERSION_MINOR 0
 
-/* The most bytes of a reply: a `buf` of so many is never too short. */
+/* The most bytes of a reply, and of a reply in packets: a `buf` of so many is never too short. */
 #define STATION_MOST_REPLY 65535
+#define STATION_MOST_PACKETS 66575
 
 /* ---- Refusals: a call answers the negative of one. */
 
@@ -62,18 +63,21 @@ extern "C" {
 #define STATION_RESULT_TOO_LONG 17 /* a result is over 65,535 bytes */
 
 /* caused by the caller; there is no refusal 19 */
-#define STATION_INPUT_TOO_LONG 18   /* an input is over 65,536 bytes: given by the programs, by no call */
+#define STATION_INPUT_TOO_LONG 18   /* an input is over 65,536 bytes, packets over 131,072: given by the programs, by no call */
 #define STATION_BUFFER_TOO_SHORT 20 /* a lent buffer is too short */
 #define STATION_ODD_TEXT 21         /* a text argument has an odd number of bytes */
 #define STATION_NOT_UTF16 22        /* a text argument is not UTF-16 */
+#define STATION_PACKET_SIZE 32      /* a packet size is under 512 or over 32,767 bytes */
 
 /* caused by the sender of a reply */
-#define STATION_NOT_A_REPLY 23         /* a packet is not of type 04, not ended, or not as long as its header says */
+#define STATION_NOT_A_REPLY 23         /* a packet is not of type 04, or its length is under 9 or past the bytes lent */
 #define STATION_CUT 24                 /* a reply is cut, or a position stands nowhere in it */
 #define STATION_UNKNOWN_TOKEN 25       /* a byte begins no token */
 #define STATION_INNER_WRONG 26         /* an inner length or a type is wrong, or bytes follow the last DONE */
 #define STATION_TOO_MANY_COLUMNS 27    /* a set has over 128 columns */
 #define STATION_ROW_WITHOUT_COLUMNS 28 /* a row stands in a set without columns */
+#define STATION_NOT_THE_NEXT 33        /* a packet's number is not the next */
+#define STATION_END_BIT_WRONG 34       /* bytes follow the end bit, or none follow and there is no end bit */
 
 /* ---- Packets and texts */
 
@@ -295,6 +299,26 @@ int64_t station_build_query_result_with_trailing_info(const uint8_t *script, siz
                                                       size_t buf_len);
 int64_t station_build_query_result_with_extras(const uint8_t *script, size_t script_len, uint8_t *buf, size_t buf_len);
 
+/* The packet sizes that can be agreed at login, header included, and the most bytes of a payload. */
+#define STATION_LEAST_PACKET_SIZE 512
+#define STATION_MOST_PACKET_SIZE 32767
+#define STATION_MOST_PAYLOAD 65527
+
+/* The same reply in packets of a size, one after another: all but the last have `size` bytes, none has an empty payload,
+ * their numbers rise from 1, and the end bit is on the last only. Their payloads joined are that of the one packet.
+ * 0 or more: the bytes written, of all packets.
+ * -32 a size under 512 or over 32,767, before all others; -11 to -17 as above; -20 a `buf` that is too short for all.
+ */
+int64_t station_build_query_results_in_packets(const uint8_t *script, size_t script_len, size_t size, uint8_t *buf,
+                                               size_t buf_len);
+
+/* The payload of any other reply in such packets. For a packet, lend what follows its header; bare tokens are payloads.
+ * An empty payload becomes no packet.
+ * 0 or more: the bytes written, of all packets.
+ * -32 as above, -17 a payload over 65,527 bytes, -20 a `buf` that is too short for all.
+ */
+int64_t station_cut_payload(const uint8_t *payload, size_t payload_len, size_t size, uint8_t *buf, size_t buf_len);
+
 /* Room to lend for the reply of a script: at least its length, and at most 32 more.
  * 0 or more: bytes.
  * -11 to -17 as above.
@@ -322,7 +346,7 @@ int64_t station_fit(const uint8_t *script, size_t script_len, uint64_t *out, siz
 /* ---- The reply reader: a token a step */
 
 /* The slots of a position. Their layout is not promised: lend them to `station_fresh`, then to each `station_step`. */
-#define STATION_POSITION_SLOTS 133
+#define STATION_POSITION_SLOTS 134
 
 /* The position of a reader that has read nothing.
  * 0: it stands in the first slots of `position`.
@@ -331,7 +355,7 @@ int64_t station_fit(const uint8_t *script, size_t script_len, uint64_t *out, siz
 int64_t station_fresh(uint64_t *position, size_t position_len);
 
 /* The slots of a step: the token's kind, and its fields by the kind. A slot that a kind does not name is 0. A part is
- * one of the packet.
+ * one of the payload, which is what the packets hold without their headers: its start counts no header's bytes.
  */
 #define STATION_STEP_SLOTS 11
 #define STATION_STEP_KIND 0
@@ -383,13 +407,21 @@ int64_t station_fresh(uint64_t *position, size_t position_len);
 #define STATION_MESSAGE_PROCEDURE_START 9
 #define STATION_MESSAGE_PROCEDURE_LENGTH 10
 
-/* The next token of a reply packet. The packet must be the same at each step of a run.
+/* The next token of a reply, whose packets stand one after another. They must be the same at each step of a run.
  * 1: the step's slots, and `position` is after the token. 0: the end; `out` may be empty, and `position` is kept.
- * -8 and -9 as `station_parse_header`, -23, -24 a position that stands nowhere in the packet, too, whatever its slots,
- * -25 to -28; -20 fewer slots of `out` or of `position`.
+ * -8 and -9 as `station_parse_header`, -23 and -33 of each header up to where the step reads; -24 a position that stands
+ * nowhere in the packets, too, whatever its slots; -25 to -28; -34; -20 fewer slots of `out` or of `position`.
  */
-int64_t station_step(const uint8_t *packet, size_t packet_len, uint64_t *position, size_t position_len, uint64_t *out,
+int64_t station_step(const uint8_t *packets, size_t packets_len, uint64_t *position, size_t position_len, uint64_t *out,
                      size_t out_len);
+
+/* The payload of a reply: what its packets hold without their headers, joined, so that a part that stands in several
+ * packets can be taken. A `buf` of as many bytes as the packets is never too short.
+ * The packets 04 00 000A 0000 01 00 81 01 and 04 01 0009 0000 02 00 FD, lent one after another, give 81 01 FD and 3.
+ * 0 or more: the bytes written.
+ * -8, -9, -23, -33 and -34 as above, of what stops the packets; -20 a `buf` that is too short.
+ */
+int64_t station_payload(const uint8_t *packets, size_t packets_len, uint8_t *buf, size_t buf_len);
 
 /* ---- Other replies
  *

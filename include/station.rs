@@ -8,9 +8,10 @@
 // Every edition takes this file from Rust 1.82 on. For an older compiler leave out the word `unsafe` before `extern`. A
 // call is unsafe, because nothing checks that a pointer is valid for the length that follows it.
 
-pub const STATION_VERSION_MAJOR: u32 = 1;
-pub const STATION_VERSION_MINOR: u32 = 1;
+pub const STATION_VERSION_MAJOR: u32 = 2;
+pub const STATION_VERSION_MINOR: u32 = 0;
 pub const STATION_MOST_REPLY: usize = 65535;
+pub const STATION_MOST_PACKETS: usize = 66575;
 
 // ---- Refusals
 
@@ -40,6 +41,7 @@ pub const STATION_INPUT_TOO_LONG: i64 = 18;
 pub const STATION_BUFFER_TOO_SHORT: i64 = 20;
 pub const STATION_ODD_TEXT: i64 = 21;
 pub const STATION_NOT_UTF16: i64 = 22;
+pub const STATION_PACKET_SIZE: i64 = 32;
 
 pub const STATION_NOT_A_REPLY: i64 = 23;
 pub const STATION_CUT: i64 = 24;
@@ -47,6 +49,8 @@ pub const STATION_UNKNOWN_TOKEN: i64 = 25;
 pub const STATION_INNER_WRONG: i64 = 26;
 pub const STATION_TOO_MANY_COLUMNS: i64 = 27;
 pub const STATION_ROW_WITHOUT_COLUMNS: i64 = 28;
+pub const STATION_NOT_THE_NEXT: i64 = 33;
+pub const STATION_END_BIT_WRONG: i64 = 34;
 
 // ---- Packets and texts
 
@@ -168,6 +172,10 @@ pub const STATION_VALUE_VARCHAR_MAX: u8 = 8;
 pub const STATION_VALUE_VARBINARY_MAX: u8 = 9;
 pub const STATION_VALUE_NULL: u8 = 10;
 
+pub const STATION_LEAST_PACKET_SIZE: usize = 512;
+pub const STATION_MOST_PACKET_SIZE: usize = 32767;
+pub const STATION_MOST_PAYLOAD: usize = 65527;
+
 pub const STATION_FIT_SLOTS: usize = 4;
 pub const STATION_FIT_KIND: usize = 0;
 pub const STATION_FIT_SET: usize = 1;
@@ -180,7 +188,7 @@ pub const STATION_MISFIT_CELL: u64 = 3;
 
 // ---- The reply reader
 
-pub const STATION_POSITION_SLOTS: usize = 133;
+pub const STATION_POSITION_SLOTS: usize = 134;
 
 pub const STATION_STEP_SLOTS: usize = 11;
 pub const STATION_STEP_KIND: usize = 0;
@@ -328,17 +336,32 @@ unsafe extern "C" {
         buf: *mut u8,
         buf_len: usize,
     ) -> i64;
+    pub fn station_build_query_results_in_packets(
+        script: *const u8,
+        script_len: usize,
+        size: usize,
+        buf: *mut u8,
+        buf_len: usize,
+    ) -> i64;
+    pub fn station_cut_payload(
+        payload: *const u8,
+        payload_len: usize,
+        size: usize,
+        buf: *mut u8,
+        buf_len: usize,
+    ) -> i64;
     pub fn station_room(script: *const u8, script_len: usize) -> i64;
     pub fn station_fit(script: *const u8, script_len: usize, out: *mut u64, out_len: usize) -> i64;
     pub fn station_fresh(position: *mut u64, position_len: usize) -> i64;
     pub fn station_step(
-        packet: *const u8,
-        packet_len: usize,
+        packets: *const u8,
+        packets_len: usize,
         position: *mut u64,
         position_len: usize,
         out: *mut u64,
         out_len: usize,
     ) -> i64;
+    pub fn station_payload(packets: *const u8, packets_len: usize, buf: *mut u8, buf_len: usize) -> i64;
     pub fn station_build_prelogin_response(buf: *mut u8, buf_len: usize) -> i64;
     pub fn station_build_prelogin_response_with_encryption(
         supports_encryption: bool,

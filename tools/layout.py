@@ -4,7 +4,7 @@ r"""The bytes of TDS packets piece by piece: as text, as a page for a browser, o
     tools/layout.py [--html|--pcap] [-o OUT] PACKET
 
 PACKET is a file, or - for standard input. It holds a packet as it is sent, or several one after another: replies and
-requests. What is made goes to standard output, or with -o to the file OUT.
+requests, each in one packet or in more. What is made goes to standard output, or with -o to the file OUT.
 
 Without --html and --pcap it is text. A line `bytes` has the digits of some fields, and after the # what they say.
 `tools/script.py compose` turns the lines into the same bytes again, whatever they are. Texts that are too long for a
@@ -74,9 +74,11 @@ def said(packet, number):
 def groups(packet, line):
     """The digits of a line's fields, in groups."""
     for piece in line.pieces:
-        for at in range(piece.start, piece.start + piece.length, piece.group):
-            end = min(at + piece.group, piece.start + piece.length)
+        at, last = piece.start, piece.start + piece.length
+        while at < last:
+            end = min(at + (piece.lead if at == piece.start and piece.lead else piece.group), last)
             yield packet.held[at:end].hex().upper()
+            at = end
 
 
 def rows(packet, line):
@@ -111,7 +113,7 @@ def text(name, held, found, numbers):
     yield "# `tools/script.py compose` turns these lines into the same bytes."
     for i, (packet, number) in enumerate(zip(found, numbers)):
         if len(found) > 1:
-            yield f"# packet {i + 1} of {len(found)}, from byte {packet.start} on"
+            yield f"# {packets.title(packet, i + 1, len(found))}"
         yield from text_of_packet(packet, number)
 
 

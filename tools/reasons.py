@@ -21,7 +21,7 @@ CAUSES = {
     16: "a column's, server's or procedure's name that would be sent has over 255 units",
     17: "what would be sent has over 65,535 bytes",
     18: "the input of a program has over 65,536 bytes",
-    23: "a packet is not of type 04, not ended, or not as long as its header says",
+    23: "a packet is not of type 04, or its length is under 9 or past the bytes lent",
     24: "a reply ends within a token or before its last DONE",
     25: "a byte begins no token that is read",
     26: "a length, count or type within a token is wrong, or bytes follow the last DONE",
@@ -31,6 +31,9 @@ CAUSES = {
     30: "a parameter is cut, a length in its value is wrong, or `sp_executesql` has no parameter",
     31: "a parameter's type or type length is not read, its status has bit 08, or FE or FF stands where its name would "
         "begin",
+    33: "a packet's number is not the next",
+    34: "a reply must go on past a packet's payload, and bytes follow the end bit, or none follow and there is no end "
+        "bit",
 }
 MOST_NAME_UNITS, MOST_COLUMNS, MOST_TEXT_BYTES, MOST_INPUT = 255, 128, 8000, 65_536
 # A longer payload is cut here where it is shown.

@@ -62,6 +62,8 @@ TRANSACTIONS = {5: "begin", 7: "commit", 8: "rollback"}
 HEADER = 8
 SET, FEATURE, UTF8_SUPPORT = 0x0001, 0x0013, 0x0A
 DONE_LENGTH, DONE_COUNT = 13, 0x10
+# The packet size that the login's acknowledgement agrees.
+AGREED = 4_096
 WITHOUT_HEADERS = struct.pack("<I", 4)
 NUMBERED = re.compile(r"\bscript ([0-9]{1,9})\b", re.I)
 COUNTED = re.compile(r"\bcounted\b")
@@ -172,6 +174,7 @@ class Conversation(socketserver.BaseRequestHandler):
         try:
             while message := self.message():
                 entry, reply = self.answer(*message)
+                reply = self.station.in_packets(reply, AGREED)
                 self.note(**entry)
                 self.heard.reply(reply)
                 self.request.sendall(reply)

@@ -11,8 +11,9 @@ import tempfile
 TOP = pathlib.Path(__file__).resolve().parent.parent
 ARCHIVE = TOP / "target/staticlib/libstation.a"
 MAKE = "`rt staticlib station` makes it"
-MOST_REPLY = 65_535
+MOST_PACKETS = 66_575
 NO_PART = 2**64 - 1
+HEADER = 8
 REPLY, END_OF_MESSAGE = 0x04, 0x01
 
 
@@ -76,14 +77,18 @@ class Station:
 
     def written(self, name, *arguments):
         """The bytes that a call writes."""
-        lent = (ctypes.c_uint8 * MOST_REPLY)()
+        lent = (ctypes.c_uint8 * MOST_PACKETS)()
         return ctypes.string_at(lent, self.call(name, *arguments, lent))
 
     def packet(self, tokens):
         """Bare tokens in the packet of a reply."""
         spid, number, window = 0, 1, 0
-        length = 8 + len(tokens)
+        length = HEADER + len(tokens)
         return self.written("write_header", REPLY, END_OF_MESSAGE, length, spid, number, window) + tokens
+
+    def in_packets(self, packet, size):
+        """A reply that is one packet, cut into packets of a size."""
+        return self.written("cut_payload", packet[HEADER:], size)
 
     def login(self, body):
         """What a login says: its feature ids, its server and its database, None where there is none."""

@@ -1,5 +1,6 @@
 //! Replies to scripts: rows of one kind, as many as there is room for.
 
+use crate::answers::packets::{HEADER, joined};
 use crate::cases::{Case, Outcome, SIZES, Side};
 use crate::protocol;
 use crate::query_response::{
@@ -54,7 +55,27 @@ pub fn replies() -> Vec<Case> {
             cases.push(Case::new(name, "result", run));
         }
     }
+    for kind in &KINDS {
+        for size in [512, 4_096] {
+            let name = format!("reply of {} in packets of {size}, 64 KB", kind.name);
+            let run = move |side, measure| match side {
+                Side::Ours => in_packets(filled(kind, 65_535), size, measure),
+                Side::Rust => reply(filled(kind, 65_535), side, measure),
+            };
+            cases.push(Case::new(name, "result", run));
+        }
+    }
     cases
+}
+
+/// Our packets of a size, beside the Rust's one: the answer is their payload in one packet.
+fn in_packets(response: QueryResponse, size: usize, measure: Measure) -> Option<Outcome> {
+    let script = script(&response);
+    let (packets, time) = ours_in_packets(&script, size, measure)?;
+    let payload = joined(&packets);
+    let [high, low] = ((HEADER + payload.len()) as u16).to_be_bytes();
+    let answer = [&[4, 1, high, low, 0, 0, 1, 0], &payload[..]].concat();
+    Some(Outcome { input: script.len(), answer, time })
 }
 
 fn reply(response: QueryResponse, side: Side, measure: Measure) -> Option<Outcome> {
@@ -142,6 +163,21 @@ fn ours(script: &[u8], measure: Measure) -> Option<(Vec<u8>, f64)> {
     let (length, time) = measure.of(call);
     reply.truncate(length as usize);
     Some((reply, time))
+}
+
+#[cfg(feature = "result")]
+fn ours_in_packets(script: &[u8], size: usize, measure: Measure) -> Option<(Vec<u8>, f64)> {
+    let mut packets = vec![0; 66_575];
+    let call =
+        || crate::station::station_build_query_results_in_packets(script, size, &mut packets);
+    let (length, time) = measure.of(call);
+    packets.truncate(length as usize);
+    Some((packets, time))
+}
+
+#[cfg(not(feature = "result"))]
+fn ours_in_packets(_: &[u8], _: usize, _: Measure) -> Option<(Vec<u8>, f64)> {
+    None
 }
 
 #[cfg(not(feature = "result"))]

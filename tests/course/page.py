@@ -14,7 +14,7 @@ BLOCK = re.compile(r"^```(\w*)\n(.*?)^```$", re.M | re.S)
 BEFORE = "rt check reply answer\n"
 # The refusals that the page has to show: a request's, a script's and a packet's. 19 is not given, and 20 to 22 are met
 # by callers of the library alone.
-REFUSALS = {*range(1, 19), *range(23, 29)}
+REFUSALS = {*range(1, 19), *range(23, 35)}
 
 
 def commands(page):

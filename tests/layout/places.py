@@ -1,5 +1,7 @@
 """The lines that `answer places` has to write for a reply, from its pieces alone."""
+from layouts.fields import Line
 
+REST = "the rest of it: "  # what the meaning of a field begins with that began in the packet before
 BEFORE = {"Value": "Length", "COLLATION": "TYPE_INFO length"}
 
 
@@ -16,10 +18,42 @@ def part(packet, token, field):
     return f"{packet.held[piece.start:piece.start + piece.length].hex().upper()} @{piece.start}+{piece.length}"
 
 
-def tokens(packet):
+class Payload:
+    """The payload of a message's packets: its bytes, and its lines, in which each field is one piece and counts payload
+    bytes."""
+
+    def __init__(self, packets):
+        self.held, self.lines = b"", []
+        for packet in packets:
+            if packet.payload is not None:
+                self.add(packet)
+
+    def add(self, packet):
+        shift = len(self.held) - len(packet.held) + sum(
+            piece.length for piece in packet.pieces() if piece.token != "header")
+        for line in packet.lines:
+            pieces = [piece._replace(start=piece.start + shift) for piece in line.pieces if piece.token != "header"]
+            if pieces and pieces[0].meaning.startswith(REST):
+                self.lengthen(pieces.pop(0).length)
+            if pieces:
+                self.place(line, pieces)
+        self.held += packet.held[len(self.held) - shift:]
+
+    def lengthen(self, more):
+        last = self.lines[-1].pieces
+        last[-1] = last[-1]._replace(length=last[-1].length + more)
+
+    def place(self, line, pieces):
+        """A line with its pieces; those of one that began in the packet before go to that line."""
+        if not line.comment.startswith("the rest of: "):
+            self.lines.append(Line(line.token, line.indent, line.comment))
+        self.lines[-1].pieces += pieces
+
+
+def tokens(payload):
     """The lines that begin a token, each with its fields by name and with its chunks."""
     found = []
-    for line in packet.lines[1:]:
+    for line in payload.lines:
         if line.indent < 4 or not found:
             found.append((line, {}, []))
         if line.indent == 4 and line.pieces[0].field == "Chunk length":
@@ -64,9 +98,9 @@ def done(packet, token):
     return f"FD {status:04X} {command:04X} {count}"
 
 
-def lines(packet):
-    """The lines of the tokens that are whole and known, until one that is not."""
-    codes, at = [], 0
+def lines(packets):
+    """The lines of the tokens of a message that are whole and known, until one that is not."""
+    packet, codes, at = Payload(packets), [], 0
     for line, token, chunks in tokens(packet):
         try:
             if line.token == "COLMETADATA" and line.indent == 0:

@@ -6,7 +6,9 @@ import re
 
 import building
 import cases
+import cutting
 import examples
+import worked as worked_replies
 
 # Builders that hand out bare tokens; the others make a packet.
 BARE = re.compile(
@@ -89,6 +91,16 @@ def ruled():
             yield name, packet
 
 
+def in_packets(source):
+    """Replies in several packets: worked ones, with faults in their headers and at their end, and by chance."""
+    yield from ((place, lent) for place, lent, _ in worked_replies.replies())
+    groups = {"beginning": cutting.truncated(), "ends": cutting.ends(), "empty": cutting.without_payload(),
+              "cut": cutting.at_random(source, MANY)}
+    for name, inputs in groups.items():
+        yield from ((f"{name} {i}", lent) for i, lent in enumerate(inputs))
+    yield from ((f"header byte {i}", lent) for i, lent in enumerate(cutting.header_bytes()) if i % 9 == 0)
+
+
 def damaged(source, held):
     """Bytes with a few changed, put in or taken out; the header's length is mostly right."""
     held = bytearray(held)
@@ -127,9 +139,9 @@ def prefixes(root):
 
 
 def split(source, held):
-    """A packet's message in several packets; each but the last says that more follows."""
+    """A packet's message in several packets, each with a payload; all but the last say that more follows."""
     kind, body = held[0], held[8:]
-    cuts = sorted(source.randint(0, len(body)) for _ in range(source.randint(1, 3)))
+    cuts = sorted(source.sample(range(1, len(body)), min(source.randint(1, 3), len(body) - 1)))
     bodies = [body[start:end] for start, end in zip([0, *cuts], [*cuts, len(body)])]
     return b"".join(building.packet(each, kind, int(i + 1 == len(bodies)), rest=bytes([0, 0, i + 1, 0]))
                     for i, each in enumerate(bodies))
@@ -138,4 +150,5 @@ def split(source, held):
 def all_packets(root, seed, count):
     fixed = [*stored(root), *listed(root), *worked(), *called(root)]
     undamaged = [held for _, held in fixed if len(held) < 600]
-    return [*fixed, *ruled(), *prefixes(root), *by_chance(random.Random(seed), count, undamaged)]
+    source = random.Random(seed)
+    return [*fixed, *ruled(), *in_packets(source), *prefixes(root), *by_chance(source, count, undamaged)]

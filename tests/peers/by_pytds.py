@@ -3,7 +3,7 @@ bytes, and whole conversations with a unit, in transactions.
 
 In a conversation pytds tells all sets and messages, and of each set the row count where the DONE's status has bit
 0010 (MS-TDS 2.2.7.6), else -1. It holds a packet in a buffer of the size that the login agreed, 4,096 bytes, and
-fails at a longer one; a reply is one packet whatever its length, as in the Rust, so the buffer is made longer here.
+fails at a longer one: the unit sends packets of that size. For a reply in one packet the buffer is made longer here.
 """
 import re
 import types
@@ -20,7 +20,7 @@ COUNT = re.compile(r"rows_affected=(-?[0-9]+)")
 
 
 class Bytes:
-    """A transport that hands out a packet."""
+    """A transport that hands out packets."""
 
     def __init__(self, packet):
         self.left = packet
@@ -38,13 +38,13 @@ class Session(pytds.tds._TdsSession):
         self.said = msg
 
 
-def tokens(packet):
-    """The tokens as pytds read them."""
-    transport = Bytes(packet)
+def tokens(packets, buffer=BUFFER):
+    """The tokens of packets as pytds read them, which holds one in a buffer."""
+    transport = Bytes(packets)
     connection = pytds.tds._TdsSocket()
     connection._login = types.SimpleNamespace(bytes_to_unicode=True)
     session = Session(connection, transport, None)
-    session._reader.set_block_size(BUFFER)
+    session._reader.set_block_size(buffer)
     session.state = tds_base.TDS_READING
     found = []
     while True:
@@ -52,7 +52,7 @@ def tokens(packet):
         read_token(session, marker, found)
         if marker == tds_base.TDS_DONE_TOKEN and not session.done_flags & tds_base.TDS_DONE_MORE_RESULTS:
             break
-    if transport.left or session._reader._pos != len(packet):
+    if transport.left or session._reader._pos != session._reader._size:
         found.append(("bytes left",))
     return found
 
@@ -125,7 +125,6 @@ def conversation(port, texts, withdrawn):
     The first half is a transaction that is committed, the second half one that is rolled back."""
     connection = pytds.connect("127.0.0.1", scripts.DATABASE, "desk", "secret", port=port, timeout=PATIENCE,
                                login_timeout=PATIENCE, autocommit=False)
-    connection._conn.main_session._reader.set_block_size(BUFFER)
     told = []
     for text in texts:
         if len(told) == len(texts) // 2:

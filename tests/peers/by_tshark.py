@@ -1,4 +1,5 @@
-"""Replies read by the TDS dissector of tshark (Debian's tshark): each is a TCP segment from port 1433 in a capture."""
+"""Replies read by the TDS dissector of tshark (Debian's tshark): each is a TCP connection from port 1433 in a capture, and
+each of its packets a segment."""
 import re
 import struct
 import subprocess
@@ -7,29 +8,42 @@ import xml.etree.ElementTree
 
 RAW_IP = 101
 HEADER_FIELDS = ("tds.type", "tds.status", "tds.length", "tds.channel", "tds.packet_number", "tds.window")
+JOINED = "tds.fragments", "tds.reassembled"
 # What XML has no room for; tshark cuts what it shows within a character, but its values are hexadecimal.
 NOT_XML = re.compile("[^\t\n\r\x20-\ud7ff\ue000-\ufffd\U00010000-\U0010ffff]")
 
 
-def capture(packets):
+def packets(reply):
+    """The packets of a reply, by their headers' lengths."""
+    while reply:
+        length = int.from_bytes(reply[2:4], "big")
+        yield reply[:length]
+        reply = reply[length:]
+
+
+def capture(replies):
     parts = [struct.pack("<IHHiIII", 0xA1B2C3D4, 2, 4, 0, 0, 262144, RAW_IP)]
-    for i, packet in enumerate(packets):
-        length = 40 + len(packet)
-        ip = struct.pack(">BBHHHBBH4s4s", 0x45, 0, length, 0, 0, 64, 6, 0, bytes([10, 0, 0, 1]), bytes([10, 0, 0, 2]))
-        tcp = struct.pack(">HHIIBBHHH", 1433, 20000 + i, 1, 1, 0x50, 0x18, 65535, 0, 0)
-        parts.append(struct.pack("<IIII", i, 0, length, length) + ip + tcp + packet)
+    for i, reply in enumerate(replies):
+        sent = 1
+        for packet in packets(reply):
+            length = 40 + len(packet)
+            ip = struct.pack(">BBHHHBBH4s4s", 0x45, 0, length, 0, 0, 64, 6, 0, bytes([10, 0, 0, 1]), bytes([10, 0, 0, 2]))
+            tcp = struct.pack(">HHIIBBHHH", 1433, 20000 + i, sent, 1, 0x50, 0x18, 65535, 0, 0)
+            parts.append(struct.pack("<IIII", i, 0, length, length) + ip + tcp + packet)
+            sent += len(packet)
     return b"".join(parts)
 
 
-def tokens(packets):
-    """For each packet its tokens as tshark read them."""
+def tokens(replies):
+    """For each reply its tokens as tshark read them, which it shows with the last packet."""
     with tempfile.NamedTemporaryFile(suffix=".pcap") as file:
-        file.write(capture(packets))
+        file.write(capture(replies))
         file.flush()
         command = ["tshark", "-r", file.name, "-T", "pdml", "-J", "tds"]
         done = subprocess.run(command, capture_output=True, check=True, timeout=600)
     tree = xml.etree.ElementTree.fromstring(NOT_XML.sub("?", done.stdout.decode(errors="replace")))
-    return [list(read(frame)) for frame in tree.iter("packet")]
+    frames = iter(tree.iter("packet"))
+    return [list(read([next(frames) for _ in packets(reply)][-1])) for reply in replies]
 
 
 def read(frame):
@@ -47,7 +61,7 @@ def read(frame):
             yield "done", number(field, "status"), number(field, "curcmd"), number(field, "donerowcount64")
         elif name in ("tds.error", "tds.info"):
             yield message(field)
-        elif not name.startswith(HEADER_FIELDS):
+        elif not name.startswith((*HEADER_FIELDS, *JOINED)):
             yield "other", name, field.get("showname")
 
 

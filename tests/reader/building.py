@@ -13,6 +13,17 @@ def packet(body, kind=0x04, status=0x01, length=None, rest=bytes([0, 0, 1, 0])):
     return struct.pack(">BBH", kind, status, length & 0xFFFF) + rest + body
 
 
+def packets(payload, cuts):
+    """A payload in packets: it is cut at some places, numbers rise from 1, and the end bit is on the last."""
+    ends = [*cuts, len(payload)]
+    return [numbered(number, payload[start:end], number == len(ends))
+            for number, (start, end) in enumerate(zip([0, *cuts], ends), 1)]
+
+
+def numbered(number, payload, last):
+    return packet(payload, status=int(last), rest=bytes([0, 0, number % 256, 0]))
+
+
 def sized(bytes_of_packet):
     """A packet with the length of its bytes in its header, if there is one."""
     if len(bytes_of_packet) < 4:

@@ -21,12 +21,14 @@ def header():
         known = kind in (0x01, 0x03, 0x06, 0x08, 0x0E, 0x10, 0x12)
         yield f"type {kind:02X}", packet(done(LAST), kind), END if kind == 4 else refused(23 if known else 9)
     for status in range(256):
-        yield f"status {status:02X}", packet(done(LAST), status=status), END if status & 1 else refused(23)
+        yield f"status {status:02X}", packet(done(LAST), status=status), END if status & 1 else refused(34)
     for length in (0, 8, 20, 22, 0x1500):
-        yield f"length {length}", packet(done(LAST), length=length), refused(23)
+        yield f"length {length}", packet(done(LAST), length=length), refused(34 if length == 20 else 23)
+    for number in range(256):
+        yield f"number {number}", packet(done(LAST), rest=bytes([0, 0, number, 0])), END if number == 1 else refused(33)
     yield "an unknown type, not ended", packet(b"", 0x05, 0), refused(9)
-    yield "spid, number and window", packet(done(LAST), rest=b"\xFF\xFF\xFF\xFF"), END
-    yield "a header alone", packet(b""), refused(24)
+    yield "spid and window", packet(done(LAST), rest=b"\xFF\xFF\x01\xFF"), END
+    yield "a header alone", packet(b""), refused(23)
     start = columns((0xA5, 0xFFFF, ""))
     besides = len(packet(start + row(long_value([b"x"])) + done(LAST))) - 1
     for length in (65534, 65535, 65536):

@@ -2,12 +2,12 @@
 crate `station`, and the symbols of the library.
 
 A function is its name and its parameters, each a name and a kind: `bytes` (a slice that is read), `buffer` (bytes that
-are written), `slots` (numbers that are written), or the type of a number as Rust has it (u8, u16, u32, u64, bool).
+are written), `slots` (numbers that are written), or the type of a number as Rust has it (u8, u16, u32, u64, usize, bool).
 """
 import re
 import subprocess
 
-C_NUMBERS = {"uint8_t": "u8", "uint16_t": "u16", "uint32_t": "u32", "uint64_t": "u64", "bool": "bool"}
+C_NUMBERS = {"uint8_t": "u8", "uint16_t": "u16", "uint32_t": "u32", "uint64_t": "u64", "size": "usize", "bool": "bool"}
 C_SLICES = {"const uint8_t *": "bytes", "uint8_t *": "buffer", "uint64_t *": "slots"}
 RATTLE_SLICES = {"&[u8]": "bytes", "&mut [u8]": "buffer", "&mut [u64]": "slots"}
 RUST_SLICES = {"*const u8": "bytes", "*mut u8": "buffer", "*mut u64": "slots"}
@@ -78,7 +78,7 @@ def of_rust(text):
         declared = [(parameter, "size" if kind == "usize" else kind) for parameter, kind in declared]
         if answer != "i64":
             raise Wrong(f"{name}: answers {answer}, and must answer i64")
-        functions[name] = joined(name, declared, RUST_SLICES, {kind: kind for kind in C_NUMBERS.values()})
+        functions[name] = joined(name, declared, RUST_SLICES, {"size": "usize", **{kind: kind for kind in C_NUMBERS.values()}})
     constants = {name: number(value) for name, _, value in RUST_CONSTANT.findall(text)}
     return functions, constants
 

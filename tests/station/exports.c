@@ -27,10 +27,13 @@
     X(build_query_result, IN(0), BUF)                                                         \
     X(build_query_result_with_trailing_info, IN(0), BUF)                                      \
     X(build_query_result_with_extras, IN(0), BUF)                                             \
+    X(build_query_results_in_packets, IN(0), N(0), BUF)                                       \
+    X(cut_payload, IN(0), N(0), BUF)                                                          \
     X(room, IN(0))                                                                            \
     X(fit, IN(0), OUT)                                                                        \
     X(fresh, POSITION)                                                                        \
     X(step, IN(0), POSITION, OUT)                                                             \
+    X(payload, IN(0), BUF)                                                                    \
     X(build_prelogin_response, BUF)                                                           \
     X(build_prelogin_response_with_encryption, N(0), BUF)                                     \
     X(build_prelogin_response_with_fedauth, N(0), N(1), BUF)                                  \

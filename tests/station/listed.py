@@ -153,10 +153,11 @@ class Listed:
             if answer != "refused 20":
                 yield f"{call} b:0", f"-{answer.split()[1]}"
             return
-        held = expanded(answer)
+        held = expanded(answer).strip("-")
         enough, few = sizes(len(held) // 2)
+        written = f" b:{held}" if held else ""
         for size in {lent, *enough}:
-            yield f"{call} b:{size}", f"{len(held) // 2} b:{held}"
+            yield f"{call} b:{size}", f"{len(held) // 2}{written}"
         for size in few:
             yield f"{call} b:{size}", TOO_SHORT
 

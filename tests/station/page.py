@@ -20,10 +20,19 @@ static size_t tokens;
 static void use(const uint64_t *out) { tokens += out[STATION_STEP_KIND] != 0; }
 int main(void)
 {
-    static uint8_t packet[STATION_MOST_REPLY];
-    size_t length = fread(packet, 1, sizeof packet, stdin);
+    static uint8_t packets[STATION_MOST_REPLY];
+    size_t length = fread(packets, 1, sizeof packets, stdin);
 %s    printf("%%d\\n", (int)tokens);
     return 0;
+}
+"""
+PACKETS = """#include <stdio.h>
+#include "station.h"
+int main(void)
+{
+    static uint8_t script[STATION_MOST_REPLY];
+    size_t script_len = fread(script, 1, sizeof script, stdin);
+%s    return written > 0 && fwrite(packets, 1, (size_t)written, stdout) == (size_t)written ? 0 : 1;
 }
 """
 LOGIN_HEADER, LOGIN_LENGTH = "0401006f00000100ad", 111
@@ -41,17 +50,28 @@ def c_program(folder, name, frame, block):
 
 
 def compare_c(tally, folder):
-    records, login, reader = blocks("c")
+    records, login, cut, reader = blocks("c")
     helpers = (ROOT / "examples/recorder.c").read_text()
     shown = "".join(f"    {line}\n" for line in records.splitlines())
     tally.check(shown in helpers, "EMBEDDING: the first script is not that of examples/recorder.c")
     packet = compiled.subprocess.run([c_program(folder, "login", LOGIN, login)], capture_output=True).stdout
     tally.equal("EMBEDDING: a login's answer", (LOGIN_HEADER, LOGIN_LENGTH), (packet[:9].hex(), len(packet)))
+    compare_packets(tally, c_program(folder, "packets", PACKETS, cut))
     program = c_program(folder, "tokens", READER, reader)
     with (ROOT / "examples/two-sets.packet").open("rb") as packet:
         found = compiled.run([program], stdin=packet).stdout
     lines = (ROOT / "examples/two-sets.tokens.txt").read_text().splitlines()
     tally.equal("EMBEDDING: the tokens that are read", f"{len(lines) - 1}\n", found)
+
+
+def compare_packets(tally, program):
+    """Of a set without anything the packet of the reply builder; of one with 5,000 bytes of classification two packets."""
+    for count, lengths in ((0, [24]), (5_000, [4_096, 936])):
+        script = count.to_bytes(4, "little") + b"\1\0" + bytes(count)
+        found = compiled.subprocess.run([program], input=script, capture_output=True).stdout
+        starts = [sum(lengths[:i]) for i in range(len(lengths))]
+        told = [int.from_bytes(found[at + 2:at + 4], "big") for at in starts]
+        tally.equal("EMBEDDING: a reply in packets", (sum(lengths), lengths), (len(found), told))
 
 
 def compare_rust(tally, folder):

@@ -1,14 +1,47 @@
-/* Steps the reply reader over packets from standard input, each a length of 4 bytes, the lower byte first, and its
- * bytes. Prints for each the lines of `answer places` (a token a line, then `end` or `refused N`) and an empty line.
- * The packet ends where a page begins that nobody may touch, and it is read-only. */
+/* Steps the reply reader over replies from standard input, each a length of 4 bytes, the lower byte first, and its
+ * packets. Prints for each the lines of `answer places` (a token a line, then `end` or `refused N`) and an empty line.
+ * The packets end where a page begins that nobody may touch, and they are read-only. Where `station_payload` joins
+ * them, it must come to the payload that is joined here, in a buffer of just its length. */
 #include "lent.h"
 #include "station.h"
 
 #include <inttypes.h>
 #include <stdio.h>
 #include <stdlib.h>
+#include <string.h>
 
-static struct lent packet;
+static struct lent packets, room;
+static uint8_t payload[LENT_MOST];
+static size_t payload_size;
+
+/* Joins what follows the headers, as far as their lengths go. */
+static void join(void)
+{
+    const uint8_t *bytes = lent_start(&packets);
+    size_t at = 0, length;
+
+    payload_size = 0;
+    while (at + 8 <= packets.size && (length = (size_t)bytes[at + 2] << 8 | bytes[at + 3]) >= 8 &&
+           length <= packets.size - at) {
+        memcpy(payload + payload_size, bytes + at + 8, length - 8);
+        payload_size += length - 8;
+        at += length;
+    }
+}
+
+/* Says so where `station_payload` joins another payload than this. */
+static void compare_payload(void)
+{
+    int64_t answer;
+
+    room.size = payload_size;
+    lent_fill(&room, 0xA5);
+    answer = station_payload(lent_start(&packets), packets.size, lent_start(&room), room.size);
+    if (answer >= 0 && ((size_t)answer != payload_size || memcmp(lent_start(&room), payload, payload_size) != 0))
+        printf("station_payload joins another payload\n");
+    if (!lent_kept_before(&room, 0xA5))
+        printf("station_payload writes before its buffer\n");
+}
 
 /* Each slot that is named here holds the start of a part, and the next one its length. */
 static void print_place(const uint64_t *part)
@@ -19,7 +52,7 @@ static void print_place(const uint64_t *part)
 static void print_bytes(size_t start, size_t length)
 {
     for (size_t i = 0; i < length; i++)
-        printf("%02X", (unsigned)lent_start(&packet)[start + i]);
+        printf("%02X", (unsigned)payload[start + i]);
 }
 
 static void print_part(const uint64_t *part)
@@ -31,7 +64,7 @@ static void print_part(const uint64_t *part)
 
 static size_t chunk_length(size_t at)
 {
-    const uint8_t *bytes = lent_start(&packet) + at;
+    const uint8_t *bytes = payload + at;
 
     return bytes[0] | (size_t)bytes[1] << 8 | (size_t)bytes[2] << 16 | (size_t)bytes[3] << 24;
 }
@@ -122,7 +155,7 @@ static void print_tokens(void)
     int64_t answer;
 
     station_fresh(position, STATION_POSITION_SLOTS);
-    while ((answer = station_step(lent_start(&packet), packet.size, position, STATION_POSITION_SLOTS, out,
+    while ((answer = station_step(lent_start(&packets), packets.size, position, STATION_POSITION_SLOTS, out,
                                   STATION_STEP_SLOTS)) == 1)
         print_token(out);
     if (answer == 0)
@@ -135,16 +168,19 @@ int main(void)
 {
     uint8_t head[4];
 
-    lent_make(&packet);
+    lent_make(&packets);
+    lent_make(&room);
     while (fread(head, 1, 4, stdin) == 4) {
-        packet.size = head[0] | (size_t)head[1] << 8 | (size_t)head[2] << 16 | (size_t)head[3] << 24;
-        if (packet.size > LENT_MOST || fread(lent_start(&packet), 1, packet.size, stdin) != packet.size) {
-            fprintf(stderr, "steps: a packet that is cut or too long\n");
+        packets.size = head[0] | (size_t)head[1] << 8 | (size_t)head[2] << 16 | (size_t)head[3] << 24;
+        if (packets.size > LENT_MOST || fread(lent_start(&packets), 1, packets.size, stdin) != packets.size) {
+            fprintf(stderr, "steps: packets that are cut or too long\n");
             return 2;
         }
-        lent_protect(&packet, true);
+        join();
+        lent_protect(&packets, true);
+        compare_payload();
         print_tokens();
-        lent_protect(&packet, false);
+        lent_protect(&packets, false);
     }
     return 0;
 }

@@ -18,6 +18,7 @@ class Piece(NamedTuple):
     field: str
     meaning: str
     group: int  # how many bytes make a group of digits in the text
+    lead: int = 0  # how many stand in the first group, where the packet before has its other bytes
 
 
 class Fault(NamedTuple):

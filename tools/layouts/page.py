@@ -177,7 +177,10 @@ def first_wrong(packets, sentences):
 
 
 def title(number, packets):
-    return f"<h2>Packet {number + 1} of {len(packets)}</h2>" if len(packets) > 1 else ""
+    """What stands over one of several packets; of one that goes on a message, where its payload begins in the whole."""
+    payload = packets[number].payload
+    goes_on = f", payload from byte {payload} on" if payload else ""
+    return f"<h2>Packet {number + 1} of {len(packets)}{goes_on}</h2>" if len(packets) > 1 else ""
 
 
 def page(name, packets, sentences):

@@ -11,6 +11,7 @@ use packet::Parsed;
 
 pub(crate) enum Call {
     Reply,
+    Packets,
     Room,
     Fit,
     Header,
@@ -32,6 +33,9 @@ pub(crate) fn named(argument: usize) -> Call {
     let word = &name[..n];
     if check::same(word, b"reply") {
         return Call::Reply;
+    }
+    if check::same(word, b"packets") {
+        return Call::Packets;
     }
     if check::same(word, b"room") {
         return Call::Room;
@@ -73,6 +77,7 @@ pub(crate) fn named(argument: usize) -> Call {
 pub(crate) fn answer(call: Call, input: &[u8], out: &mut [u8], at: usize) -> usize {
     match call {
         Call::Reply => scripts::reply(input, out, at),
+        Call::Packets => scripts::packets(input, out, at),
         Call::Room => scripts::room(input, out, at),
         Call::Fit => scripts::fit(input, out, at),
         Call::Header => answer_header(input, out, at),

@@ -7,15 +7,26 @@ use crate::lines;
 use libc::STDIN_FILENO;
 use wire::Part;
 
-// The most bytes of an input.
+// The most bytes of an input, and of a reply in packets.
 const MOST: usize = 65536;
+
+const MOST_PACKETS: usize = 131072;
+
 // The bytes of the lent input buffer: an input and the length of a next one.
-pub(crate) const ROOM: usize = 65540;
+pub(crate) const ROOM: usize = 131076;
+
+// The most bytes of a call's input.
+fn most(call: Call) -> usize {
+    match call {
+        Call::Tokens | Call::Places => MOST_PACKETS,
+        _ => MOST,
+    }
+}
 
 // One answer: all of standard input is the input.
 pub(crate) fn once(call: Call, input: &mut [u8], out: &mut [u8]) -> usize {
     let n = read_up_to(input, input.len());
-    if n <= MOST {
+    if n <= most(call) {
         calls::answer(
             call,
             wire::part_of(input, Part { start: 0, len: n }),
@@ -56,7 +67,7 @@ fn first(input: &mut [u8]) -> Run {
 
 fn turn(call: Call, input: &mut [u8], out: &mut [u8], run: Run) -> Run {
     let len = run.len;
-    if len as usize <= MOST {
+    if len as usize <= most(call) {
         one(call, input, out, run)
     } else {
         over(input, out, run)
@@ -81,7 +92,7 @@ fn one(call: Call, input: &mut [u8], out: &mut [u8], run: Run) -> Run {
     next(input, at, len, got == end)
 }
 
-// An input over MOST bytes, which is passed over.
+// An input over the most bytes of its call, which is passed over.
 fn over(input: &mut [u8], out: &mut [u8], run: Run) -> Run {
     if !pass_over(input, run.len as usize) {
         return stopped(run.at);

@@ -6,8 +6,13 @@ use result::Built;
 use result::Room;
 use wire::Part;
 
-// The most bytes of a packet.
+// The most bytes of a packet, and of a reply in packets: 65,527 bytes in packets of 512.
 const PACKET: usize = 65535;
+
+const PACKETS: usize = 66575;
+
+// The bytes of the packet size before a script.
+const SIZE: usize = 4;
 
 // packet HEX
 pub(crate) fn reply(input: &[u8], out: &mut [u8], at: usize) -> usize {
@@ -32,6 +37,46 @@ fn packet_line(packet: &[u8], out: &mut [u8], at: usize) -> usize {
     let at = lines::text(out, at, b"packet");
     let at = lines::bytes(out, at, packet);
     lines::end(out, at)
+}
+
+// packet HEX of each packet, of the size that stands before the script
+pub(crate) fn packets(input: &[u8], out: &mut [u8], at: usize) -> usize {
+    let size = wire::get_u32_le(input, 0);
+    let rest = Part {
+        start: SIZE,
+        len: wire::left(input, SIZE),
+    };
+    let mut packets = [0u8; PACKETS];
+    match result::build_query_results_in_packets(
+        wire::part_of(input, rest),
+        size as usize,
+        &mut packets,
+    ) {
+        Built::Written(length) => {
+            let all = Part {
+                start: 0,
+                len: length,
+            };
+            packet_lines(wire::part_of(&packets, all), size, out, at)
+        }
+        Built::Refused(number) => lines::refused(out, at, number),
+    }
+}
+
+// Packets of a size, one after another: a line each.
+fn packet_lines(packets: &[u8], size: u32, out: &mut [u8], at: usize) -> usize {
+    let len = size as usize;
+    let mut to = at;
+    let mut start: usize = 0;
+    while start < packets.len() {
+        let next = start + len;
+        if next <= start {
+            return to;
+        }
+        to = packet_line(wire::part_of(packets, Part { start, len }), out, to);
+        start = next;
+    }
+    to
 }
 
 // room N

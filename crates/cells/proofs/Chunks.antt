@@ -18,7 +18,7 @@ use Rattle.token.specs.Tokens.{joined, putChunks}
 use Rattle.token.proofs.Puts.{chunks-before}
 use Rattle.cells.specs.declared.Value.the-variants as value
 use Rattle.wire.specs.Even.{even}
-use Rattle.payload.specs.Places.{Place, whole, partTo}
+use Rattle.payload.specs.Places.{Source, Place, whole, partTo}
 use Rattle.cells.specs.Cells.{isChunk, isLast, chunkAt, chunksAt, maxAt}
 use Rattle.cells.specs.Values.{chunkBytes}
 use Rattle.payload.proofs.Standing.{At, past-word, past-raw, number-at, part-at, must-at, cond-no, then-at}
@@ -37,7 +37,7 @@ pub past-is : (at : Place) (cs : List (List ℕ)) → past-chunks at cs ≡ at +
 past-is at [] = omega arith
 past-is at (c ∷ cs) = omega (arith, past-is (at + 4 + length c) cs, length-append c (joined cs))
 
-pub after-chunks : {p : List ℕ} {fs : List Field} (at : Place) (cs : List (List ℕ)) → At p at (putChunks cs fs) → At p (past-chunks at cs) fs
+pub after-chunks : {p : Source} {fs : List Field} (at : Place) (cs : List (List ℕ)) → At p at (putChunks cs fs) → At p (past-chunks at cs) fs
 after-chunks at [] a = past-word a
 after-chunks at (c ∷ cs) a = after-chunks (at + 4 + length c) cs (past-raw _ refl (past-word a))
 
@@ -47,7 +47,7 @@ or-turned true false e = refl
 or-turned false true e = refl
 or-turned false false e = e
 
-module _ {p : List ℕ} (short : length p < 65536) (fs : List Field) (text known : Bool) (start : Place) where
+module _ {p : Source} (short : length (p .bytes) < 65536) (fs : List Field) (text known : Bool) (start : Place) where
   pub chunks-at : (turns : ℕ) (cs : List (List ℕ)) (left at : ℕ) → length cs < turns → ChunksOk text cs → left ≡ length (joined cs) → At p at (putChunks cs fs)
       → chunksAt turns text known p start left at ≡ whole (partTo start (past-chunks at cs)) (past-chunks at cs)
   unfolding chunksAt chunkAt isChunk isLast
@@ -89,8 +89,8 @@ length-chunks (c ∷ cs) =
     ∙ omega (arith, length-chunks cs, length-append c (joined cs))
 
 -- the part that they are
-part-chunks : {p : List ℕ} (fs : List Field) (at : Place) (cs : List (List ℕ)) → At p at (putChunks cs fs)
-    → partBytes p (partTo at (past-chunks at cs)) ≡ flat (putChunks cs [])
+part-chunks : {p : Source} (fs : List Field) (at : Place) (cs : List (List ℕ)) → At p at (putChunks cs fs)
+    → partBytes (p .bytes) (partTo at (past-chunks at cs)) ≡ flat (putChunks cs [])
 unfolding partBytes
 part-chunks {p} fs at cs a =
     rw (a .is, chunks-before cs fs, flat-cat (putChunks cs []) fs)
@@ -104,9 +104,9 @@ even-sum true (c ∷ cs) ok =
     let e2 : length (joined cs) % 2 ≡ 0 = eqb-true _ _ (or-turned _ false (even-sum true cs (ok .2))) in
     rw (eq-eqb (length (c ++ joined cs) % 2) 0 (simp length-append (omega arith)))
 
-module _ {p : List ℕ} (short : length p < 65536) (fs : List Field) (text : Bool) (cs : List (List ℕ)) (ok : ChunksOk text cs) (at : Place)
+module _ {p : Source} (short : length (p .bytes) < 65536) (fs : List Field) (text : Bool) (cs : List (List ℕ)) (ok : ChunksOk text cs) (at : Place)
     (a : At p at (word 8 (length (joined cs)) ∷ putChunks cs fs)) where
-  few : (length cs < suc (length p)) × (length (joined cs) < 65536)
+  few : (length cs < suc (length (p .bytes))) × (length (joined cs) < 65536)
   few = (omega (arith, past-is (at + 8) cs, after-chunks (at + 8) cs (past-word a) .inside), omega (arith, past-is (at + 8) cs, after-chunks (at + 8) cs (past-word a) .inside))
 
   pub max-at : maxAt text p at ≡ whole (value.Max (partTo (at + 8) (past-chunks (at + 8) cs))) (past-chunks (at + 8) cs)
@@ -115,9 +115,9 @@ module _ {p : List ℕ} (short : length p < 65536) (fs : List Field) (text : Boo
       let n = length (joined cs) in
       let l = few in
       number-at _ (omega arith) a ∙ cond-no _ _ (ne-eqb n 0xFFFFFFFFFFFFFFFF (omega arith)) ∙ must-at _ _ (even-sum text cs ok)
-      ∙ then-at _ (chunks-at short fs text (not (eqb n 0xFFFFFFFFFFFFFFFE)) (at + 8) (suc (length p)) cs n (at + 8) (l .0) ok refl (past-word a))
+      ∙ then-at _ (chunks-at short fs text (not (eqb n 0xFFFFFFFFFFFFFFFE)) (at + 8) (suc (length (p .bytes))) cs n (at + 8) (l .0) ok refl (past-word a))
 
-  pub max-bytes : chunkBytes (past-chunks (at + 8) cs - (at + 8)) (partBytes p (partTo (at + 8) (past-chunks (at + 8) cs))) ≡ joined cs
+  pub max-bytes : chunkBytes (past-chunks (at + 8) cs - (at + 8)) (partBytes (p .bytes) (partTo (at + 8) (past-chunks (at + 8) cs))) ≡ joined cs
   max-bytes =
       rw (part-chunks fs (at + 8) cs (past-word a))
       (joined-at (past-chunks (at + 8) cs - (at + 8)) text cs [] (omega (arith, past-is (at + 8) cs)) (few .1) ok)

@@ -11,9 +11,17 @@ use Rattle.wire.specs.Le.{leAt}
 use Rattle.wire.specs.declared.Part.{Part}
 use Rattle.cells.specs.declared.ChunkRead.{ChunkRead}
 use Rattle.cells.specs.declared.ChunkRead.the-variants as chunk
-use Rattle.payload.specs.Places.{Place, Read, whole, refused, numberAt, partAt, must, then, partTo}
+use Rattle.payload.specs.Places.{Source, Place, Read, whole, refused, numberAt, partAt, must, then, partTo}
 use Rattle.cells.specs.Cells.{isChunk, isLast, chunkAt, chunksAt}
 use Rattle.cells.specs.Code.{chunkRead}
+use Rattle.payload.specs.declared.frames.Frame.{Frame}
+use Rattle.payload.specs.declared.PartRead.the-variants as part
+use Rattle.payload.specs.Answers.{partRead}
+use Rattle.payload.specs.Frames.{sourceFrom, frameAt}
+use Rattle.payload.proofs.Sources.{Same, same-self, same-later, same-then}
+use Rattle.payload.proofs.Agree.{agree-is}
+use Rattle.payload.proofs.Reach.{frame-same}
+use Rattle.cells.proofs.Agree.{chunk-agree}
 use Rattle.payload.proofs.CodeReads.{clash, then-same, then-got, then-not, if-not}
 
 -- ---- what the answer for a chunk tells
@@ -50,28 +58,28 @@ module _ {A : Type 0} where
   passed false x n e = clash (cc)
 
 -- by the tests that it passed
-fits-of : (b : Bool) (len at m n to : ℕ) (last more : Bool)
-    → cond b (cond last (whole 0 at) (refused 26)) (cond more (cond (leb (at + m) len) (whole m (at + m)) (refused 24)) (refused 26)) ≡ whole n to
+fits-of : (b : Bool) (len stop at m n to : ℕ) (last more : Bool)
+    → cond b (cond last (whole 0 at) (refused 26)) (cond more (cond (leb (at + m) len) (whole m (at + m)) (refused stop)) (refused 26)) ≡ whole n to
     → at ≤ len → (at ≤ to) × (to ≤ len)
-fits-of true len at m n to last more e h =
+fits-of true len stop at m n to last more e h =
     let w = passed last _ 26 e in
     let f : at ≡ to = cc in
     (omega arith, omega arith)
-fits-of false len at m n to last more e h =
+fits-of false len stop at m n to last more e h =
     let w = passed more _ 26 e in
-    let v = passed (leb (at + m) len) _ 24 (w .1) in
+    let v = passed (leb (at + m) len) _ stop (w .1) in
     let f : at + m ≡ to = cc in
     let l : at + m ≤ len = leb-true (at + m) len (v .0) in
     (omega arith, omega arith)
 
-module _ (text known : Bool) (p : List ℕ) where
-  pub chunk-fits : (left at n to : ℕ) → chunkAt text known p left at ≡ whole n to → (at < to) × (to ≤ length p)
+module _ (text known : Bool) (p : Source) where
+  pub chunk-fits : (left at n to : ℕ) → chunkAt text known p left at ≡ whole n to → (at < to) × (to ≤ length (p .bytes))
   unfolding chunkAt numberAt partAt must
   chunk-fits left at n to e =
-      let w = passed (leb (at + 4) (length p)) _ 24 e in
-      let l : at + 4 ≤ length p = leb-true (at + 4) (length p) (w .0) in
-      let m : ℕ = leAt 4 (drop at p) in
-      let v = fits-of (eqb m 0) (length p) (at + 4) m n to (isLast known left) (isChunk text known left m) (w .1) l in
+      let w = passed (leb (at + 4) (length (p .bytes))) _ (p .stop) e in
+      let l : at + 4 ≤ length (p .bytes) = leb-true (at + 4) (length (p .bytes)) (w .0) in
+      let m : ℕ = leAt 4 (drop at (p .bytes)) in
+      let v = fits-of (eqb m 0) (length (p .bytes)) (p .stop) (at + 4) m n to (isLast known left) (isChunk text known left m) (w .1) l in
       (omega arith, v .1)
 
   -- ---- turns
@@ -86,7 +94,7 @@ module _ (text known : Bool) (p : List ℕ) where
     turn turns left at = refl
 
     -- a run that has enough turns does not depend on how many
-    enough : (k j left at : ℕ) → length p - at < k → length p - at < j → chunksAt k text known p start left at ≡ chunksAt j text known p start left at
+    enough : (k j left at : ℕ) → length (p .bytes) - at < k → length (p .bytes) - at < j → chunksAt k text known p start left at ≡ chunksAt j text known p start left at
     enough zero j left at hk hj = absurd (omega arith)
     enough (suc k) zero left at hk hj = absurd (omega arith)
     enough (suc k) (suc j) left at hk hj =
@@ -98,14 +106,55 @@ module _ (text known : Bool) (p : List ℕ) where
 
     -- from a chunk, from the zero length, and from a refusal
     pub goes-on : (left at n to : ℕ) → (chunkAt text known p left at ≡ whole n to) × (eqb n 0 ≡ false)
-        → chunksAt (suc (length p)) text known p start left at ≡ chunksAt (suc (length p)) text known p start (left - n) to
+        → chunksAt (suc (length (p .bytes))) text known p start left at ≡ chunksAt (suc (length (p .bytes))) text known p start (left - n) to
     goes-on left at n to (e, f) =
         let l = chunk-fits left at n to e in
-        turn (length p) left at ∙ then-got (onward (length p) left) e ∙ if-not _ _ f
-        ∙ enough (length p) (suc (length p)) (left - n) to (omega arith) (omega arith)
+        turn (length (p .bytes)) left at ∙ then-got (onward (length (p .bytes)) left) e ∙ if-not _ _ f
+        ∙ enough (length (p .bytes)) (suc (length (p .bytes))) (left - n) to (omega arith) (omega arith)
 
-    pub ends : (left at to : ℕ) → chunkAt text known p left at ≡ whole 0 to → chunksAt (suc (length p)) text known p start left at ≡ whole (partTo start to) to
-    ends left at to e = turn (length p) left at ∙ then-got (onward (length p) left) e
+    pub ends : (left at to : ℕ) → chunkAt text known p left at ≡ whole 0 to → chunksAt (suc (length (p .bytes))) text known p start left at ≡ whole (partTo start to) to
+    ends left at to e = turn (length (p .bytes)) left at ∙ then-got (onward (length (p .bytes)) left) e
 
-    pub breaks : (left at n : ℕ) → chunkAt text known p left at ≡ refused n → chunksAt (suc (length p)) text known p start left at ≡ refused n
-    breaks left at n e = turn (length p) left at ∙ then-not (onward (length p) left) e
+    pub breaks : (left at n : ℕ) → chunkAt text known p left at ≡ refused n → chunksAt (suc (length (p .bytes))) text known p start left at ≡ refused n
+    breaks left at n e = turn (length (p .bytes)) left at ∙ then-not (onward (length (p .bytes)) left) e
+
+-- ---- the loop: the chunks of a value from start on have been read up to a place of a frame
+
+pub record Chunking (l : List ℕ) (f here : Frame) (text known : Bool) (start total at left : ℕ) : Type 0 where
+  pub from : start ≤ at
+  pub same : Same (sourceFrom l f) (sourceFrom l here) at
+  pub is : chunksAt (suc (length (sourceFrom l f .bytes))) text known (sourceFrom l f) start total start
+      ≡ chunksAt (suc (length (sourceFrom l f .bytes))) text known (sourceFrom l f) start left at
+
+pub chunking-begins : (l : List ℕ) (f : Frame) (text known : Bool) (start total : ℕ) → Chunking l f f text known start total start total
+chunking-begins l f text known start total = record { from = omega arith; same = same-self (sourceFrom l f) start; is = refl }
+
+module _ {l : List ℕ} {f here : Frame} {text known : Bool} {start total at left : ℕ} (c : Chunking l f here text known start total at left) {r : ChunkRead}
+    (e : r ≡ chunkRead (chunkAt text known (sourceFrom l here) left at)) where
+  -- the chunk is that of the first frame's source
+  same-chunk : chunkAt text known (sourceFrom l f) left at ≡ chunkAt text known (sourceFrom l here) left at
+  same-chunk = agree-is (chunk-agree text known left at (c .same))
+
+  pub chunking-breaks : {n : ℕ} → r ≡ chunk.Refused n → part.Refused n ≡ partRead (chunksAt (suc (length (sourceFrom l f .bytes))) text known (sourceFrom l f) start total start)
+  chunking-breaks q = sym (ap partRead (c .is ∙ breaks text known (sourceFrom l f) start left at _ (same-chunk ∙ chunk-is-not _ e q)))
+
+  pub chunking-ends : {to : ℕ} → r ≡ chunk.Last to
+      → part.Whole (record { part = partTo start to; next = to }) ≡ partRead (chunksAt (suc (length (sourceFrom l f .bytes))) text known (sourceFrom l f) start total start)
+  chunking-ends q = sym (ap partRead (c .is ∙ ends text known (sourceFrom l f) start left at _ (same-chunk ∙ last-is _ e q)))
+
+  pub chunking-last : {to : ℕ} → r ≡ chunk.Last to → start ≤ to
+  chunking-last q = let h = c .from in omega (arith, chunk-fits text known (sourceFrom l f) left at _ _ (same-chunk ∙ last-is _ e q) .0)
+
+  pub chunking-fits : {n to : ℕ} → r ≡ chunk.More n to → (at < to) × (to ≤ length (sourceFrom l f .bytes))
+  chunking-fits q = chunk-fits text known (sourceFrom l f) left at _ _ (same-chunk ∙ more-is _ e q .0)
+
+  pub chunking-on : {n to rest : ℕ} {next : Frame} → r ≡ chunk.More n to → rest ≡ left - n → next ≡ frameAt l here to → Chunking l f next text known start total to rest
+  chunking-on {n} {to} q b g =
+      let m = more-is (chunkAt text known (sourceFrom l here) left at) e q in
+      let h = chunking-fits q in
+      let k = c .from in
+      record {
+        from = omega arith;
+        same = rw g (same-then (same-later at (omega arith) (c .same)) (frame-same l here to));
+        is = c .is ∙ goes-on text known (sourceFrom l f) start left at n to (same-chunk ∙ m .0, m .1) ∙ rw b;
+      }

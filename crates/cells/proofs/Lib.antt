@@ -5,3 +5,4 @@ pub mod CodeTypes
 pub mod CodeSigns
 pub mod CodeChunks
 pub mod Inside
+pub mod Agree

@@ -3,10 +3,9 @@
 -- docs/FORMATS.md, 'Tokens and types that are read', has it in words.
 use Prim.Native.Nat.{ℕ, zero, suc, _-_}
 use mathlib.Core.Bool.{Bool, cond, not, _&&_, _||_}
-use mathlib.Core.List.{List}
 use lib.Dec.{eqb, leb}
 use lib.ListN.{length}
-use Rattle.refusals.specs.Numbers.{cutShort, innerWrong}
+use Rattle.refusals.specs.Numbers.{innerWrong}
 use Rattle.wire.specs.declared.Part.{Part}
 use Rattle.token.specs.Types.{lengthWidth, collationSize}
 use Rattle.token.specs.Tokens.{signed}
@@ -14,7 +13,7 @@ use Rattle.cells.specs.declared.TypeInfo.{TypeInfo}
 use Rattle.cells.specs.declared.Value.{Value}
 use Rattle.cells.specs.declared.Value.the-variants as value
 use Rattle.wire.specs.Even.{even}
-use Rattle.payload.specs.Places.{Place, Read, whole, refused, numberAt, partAt, must, then, partTo}
+use Rattle.payload.specs.Places.{Source, Place, Read, whole, refused, numberAt, partAt, must, then, partTo}
 
 -- ---- column types
 
@@ -30,33 +29,33 @@ isType code limit =
     || ((eqb code 0xA7 || eqb code 0xA5) && eqb limit 0xFFFF)
 
 -- TYPE_INFO: the code, the length, the collation
-unfoldable pub typeAt : List ℕ → Place → Read TypeInfo
-typeAt packet at =
-    numberAt 1 packet at λ code a1.
+unfoldable pub typeAt : Source → Place → Read TypeInfo
+typeAt src at =
+    numberAt 1 src at λ code a1.
     must (isCode code) innerWrong
-    (numberAt (lengthWidth code) packet a1 λ limit a2.
+    (numberAt (lengthWidth code) src a1 λ limit a2.
     must (isType code limit) innerWrong
-    (partAt (collationSize code) packet a2 λ collation a3.
+    (partAt (collationSize code) src a2 λ collation a3.
     whole (record { code = code; limit = limit; collation = collation }) a3))
 
 -- ---- cells
 
 -- a cell of 26: length 0 (null) or the column's
-unfoldable pub integerAt : ℕ → List ℕ → Place → Read Value
-integerAt limit packet at =
-    numberAt 1 packet at λ n a1.
+unfoldable pub integerAt : ℕ → Source → Place → Read Value
+integerAt limit src at =
+    numberAt 1 src at λ n a1.
     cond (eqb n 0) (whole value.Null a1)
     (must (eqb n limit) innerWrong
-    (numberAt n packet a1 λ v a2.
+    (numberAt n src a1 λ v a2.
     whole (value.Number (signed n v)) a2))
 
 -- a cell of bounded E7: FFFF is null, else an even length within the limit
-unfoldable pub boundedAt : ℕ → List ℕ → Place → Read Value
-boundedAt limit packet at =
-    numberAt 2 packet at λ n a1.
+unfoldable pub boundedAt : ℕ → Source → Place → Read Value
+boundedAt limit src at =
+    numberAt 2 src at λ n a1.
     cond (eqb n 0xFFFF) (whole value.Null a1)
     (must (even n && leb n limit) innerWrong
-    (partAt n packet a1 λ part a2.
+    (partAt n src a1 λ part a2.
     whole (value.Part part) a2))
 
 -- a chunk of n bytes that can stand where left bytes of a known total are to come: an even one in text, and not over what is left
@@ -68,34 +67,34 @@ unfoldable pub isLast : Bool → ℕ → Bool
 isLast known left = eqb left 0 || not known
 
 -- the length of the chunk at a place, which is 0 for the last, with the place after the chunk
-unfoldable pub chunkAt : Bool → Bool → List ℕ → ℕ → Place → Read ℕ
-chunkAt text known packet left at =
-    numberAt 4 packet at λ n a1.
+unfoldable pub chunkAt : Bool → Bool → Source → ℕ → Place → Read ℕ
+chunkAt text known src left at =
+    numberAt 4 src at λ n a1.
     cond (eqb n 0) (must (isLast known left) innerWrong (whole 0 a1))
     (must (isChunk text known left n) innerWrong
-    (partAt n packet a1 λ part a2.
+    (partAt n src a1 λ part a2.
     whole n a2))
 
 -- the chunks of a Max value up to a zero length, as the part from start on. A chunk is four bytes or more, so that one
--- turn more than the packet has bytes is enough
-unfoldable pub chunksAt : ℕ → Bool → Bool → List ℕ → Place → ℕ → Place → Read Part
-chunksAt zero text known packet start left at = refused cutShort
-chunksAt (suc turns) text known packet start left at =
-    then (chunkAt text known packet left at) λ n a1.
-    cond (eqb n 0) (whole (partTo start a1) a1) (chunksAt turns text known packet start (left - n) a1)
+-- turn more than the source has bytes is enough
+unfoldable pub chunksAt : ℕ → Bool → Bool → Source → Place → ℕ → Place → Read Part
+chunksAt zero text known src start left at = refused (src .stop)
+chunksAt (suc turns) text known src start left at =
+    then (chunkAt text known src left at) λ n a1.
+    cond (eqb n 0) (whole (partTo start a1) a1) (chunksAt turns text known src start (left - n) a1)
 
 -- a Max cell (PLP_BODY): total of all FF is null, all FF but a lowest byte FE is unknown, else the chunks' sum, which is even in text
-unfoldable pub maxAt : Bool → List ℕ → Place → Read Value
-maxAt text packet at =
-    numberAt 8 packet at λ total a1.
+unfoldable pub maxAt : Bool → Source → Place → Read Value
+maxAt text src at =
+    numberAt 8 src at λ total a1.
     cond (eqb total 0xFFFFFFFFFFFFFFFF) (whole value.Null a1)
     (must (even total || not text) innerWrong
-    (then (chunksAt (suc (length packet)) text (not (eqb total 0xFFFFFFFFFFFFFFFE)) packet a1 total a1) λ part a2.
+    (then (chunksAt (suc (length (src .bytes))) text (not (eqb total 0xFFFFFFFFFFFFFFFE)) src a1 total a1) λ part a2.
     whole (value.Max part) a2))
 
 -- a cell of a column of some code and length: 26 where there is no such type
-unfoldable pub cellAt : ℕ → ℕ → List ℕ → Place → Read Value
-cellAt code limit packet at =
+unfoldable pub cellAt : ℕ → ℕ → Source → Place → Read Value
+cellAt code limit src at =
     must (isType code limit) innerWrong
-    (cond (eqb code 0x26) (integerAt limit packet at)
-    (cond (eqb limit 0xFFFF) (maxAt (eqb code 0xE7) packet at) (boundedAt limit packet at)))
+    (cond (eqb code 0x26) (integerAt limit src at)
+    (cond (eqb limit 0xFFFF) (maxAt (eqb code 0xE7) src at) (boundedAt limit src at)))

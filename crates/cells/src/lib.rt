@@ -3,6 +3,8 @@
 use payload::NumberRead;
 use payload::PartAt;
 use payload::PartRead;
+use payload::frames::Frame;
+use payload::frames::frame_at;
 use payload::minus;
 use payload::part_at;
 use payload::u8_at;
@@ -20,6 +22,7 @@ ghost use Rattle.wire.specs.Even.{even};
 ghost use Rattle.token.specs.Types.{lengthWidth};
 ghost use Rattle.token.specs.Tokens.{signed};
 ghost use Rattle.payload.specs.Places.{whole, numberAt};
+ghost use Rattle.payload.specs.Frames.{sourceFrom};
 ghost use Rattle.payload.specs.Answers.{numberRead, partRead, Below};
 ghost use Rattle.cells.specs.Cells.{isCode, isType, typeAt, integerAt, boundedAt, isChunk, isLast, chunkAt, chunksAt, maxAt, cellAt};
 ghost use Rattle.cells.specs.Answers.{typeRead, cellRead};
@@ -70,10 +73,10 @@ pub enum TypeRead {
 }
 
 // TYPE_INFO: the code, the length, the collation.
-pub fn type_at(packet: &[u8], at: usize) -> TypeRead
-    ensures { λ r. ⌜ r ≡ typeRead (typeAt (now (packet .entry)) at) ⌝ }
+pub fn type_at(lent: &[u8], frame: Frame, at: usize) -> TypeRead
+    ensures { λ r. ⌜ r ≡ typeRead (typeAt (sourceFrom (now (lent .entry)) frame) at) ⌝ }
 {
-    let code = match u8_at(packet, at) {
+    let code = match u8_at(lent, frame, at) {
         NumberRead::Refused(n) => return TypeRead::Refused(n),
         NumberRead::Whole(n) => n,
     };
@@ -81,7 +84,7 @@ pub fn type_at(packet: &[u8], at: usize) -> TypeRead
     if !is_code(byte) {
         return TypeRead::Refused(INNER_WRONG);
     }
-    let limit = match length_at(packet, code.next, byte) {
+    let limit = match length_at(lent, frame, code.next, byte) {
         NumberRead::Refused(n) => return TypeRead::Refused(n),
         NumberRead::Whole(n) => n,
     };
@@ -89,7 +92,7 @@ pub fn type_at(packet: &[u8], at: usize) -> TypeRead
     if !is_type(byte, most) {
         return TypeRead::Refused(INNER_WRONG);
     }
-    match part_at(packet, limit.next, token::collation_size(byte)) {
+    match part_at(lent, frame, limit.next, token::collation_size(byte)) {
         PartRead::Refused(n) => TypeRead::Refused(n),
         PartRead::Whole(read) => {
             let collation = read.part;
@@ -124,13 +127,13 @@ pub fn is_type(code: u8, limit: u16) -> bool
 }
 
 // A type's length, which stands in one byte or in two.
-fn length_at(packet: &[u8], at: usize, code: u8) -> NumberRead
-    ensures { λ r. ⌜ (r ≡ numberRead (numberAt (lengthWidth code) (now (packet .entry)) at whole)) × Below 2 r ⌝ }
+fn length_at(lent: &[u8], frame: Frame, at: usize, code: u8) -> NumberRead
+    ensures { λ r. ⌜ (r ≡ numberRead (numberAt (lengthWidth code) (sourceFrom (now (lent .entry)) frame) at whole)) × Below 2 r ⌝ }
 {
     if token::length_width(code) == 1 {
-        u8_at(packet, at)
+        u8_at(lent, frame, at)
     } else {
-        u16_at(packet, at)
+        u16_at(lent, frame, at)
     }
 }
 
@@ -142,33 +145,33 @@ pub enum CellRead {
 
 // A cell of a column of some code and length: 26 where there is no such type. The test stands in each branch, where it is
 // cheapest.
-pub fn cell_at(packet: &[u8], at: usize, code: u8, limit: u16) -> CellRead
-    ensures { λ r. ⌜ r ≡ cellRead (cellAt code limit (now (packet .entry)) at) ⌝ }
+pub fn cell_at(lent: &[u8], frame: Frame, at: usize, code: u8, limit: u16) -> CellRead
+    ensures { λ r. ⌜ r ≡ cellRead (cellAt code limit (sourceFrom (now (lent .entry)) frame) at) ⌝ }
 {
     if code == INTN {
         if !is_type(INTN, limit) {
             return CellRead::Refused(INNER_WRONG);
         }
-        return integer_at(packet, at, limit);
+        return integer_at(lent, frame, at, limit);
     }
     if limit == MAX {
         if !is_type(code, MAX) {
             return CellRead::Refused(INNER_WRONG);
         }
-        return max_at(packet, at, code == NVARCHAR);
+        return max_at(lent, frame, at, code == NVARCHAR);
     }
     if !is_type(code, limit) {
         return CellRead::Refused(INNER_WRONG);
     }
-    bounded_at(packet, at, limit)
+    bounded_at(lent, frame, at, limit)
 }
 
 // A cell of an integer column of some length: a length that is 0, which is null, or the column's, and the number.
-fn integer_at(packet: &[u8], at: usize, limit: u16) -> CellRead
+fn integer_at(lent: &[u8], frame: Frame, at: usize, limit: u16) -> CellRead
     requires { ⌜ isType 0x26 limit ≡ true ⌝ }
-    ensures { λ r. ⌜ r ≡ cellRead (integerAt limit (now (packet .entry)) at) ⌝ }
+    ensures { λ r. ⌜ r ≡ cellRead (integerAt limit (sourceFrom (now (lent .entry)) frame) at) ⌝ }
 {
-    let size = match u8_at(packet, at) {
+    let size = match u8_at(lent, frame, at) {
         NumberRead::Refused(n) => return CellRead::Refused(n),
         NumberRead::Whole(n) => n,
     };
@@ -179,7 +182,7 @@ fn integer_at(packet: &[u8], at: usize, limit: u16) -> CellRead
         return CellRead::Refused(INNER_WRONG);
     }
     let width = size.value as usize;
-    match integer_number_at(packet, size.next, width) {
+    match integer_number_at(lent, frame, size.next, width) {
         NumberRead::Refused(n) => CellRead::Refused(n),
         NumberRead::Whole(n) => CellRead::Whole(
             Value::Number(signed_number(width, n.value)),
@@ -189,15 +192,15 @@ fn integer_at(packet: &[u8], at: usize, limit: u16) -> CellRead
 }
 
 // The number of an integer column's width at a place.
-fn integer_number_at(packet: &[u8], at: usize, width: usize) -> NumberRead
+fn integer_number_at(lent: &[u8], frame: Frame, at: usize, width: usize) -> NumberRead
     requires { ⌜ isType 0x26 width ≡ true ⌝ }
-    ensures { λ r. ⌜ (r ≡ numberRead (numberAt width (now (packet .entry)) at whole)) × Below width r ⌝ }
+    ensures { λ r. ⌜ (r ≡ numberRead (numberAt width (sourceFrom (now (lent .entry)) frame) at whole)) × Below width r ⌝ }
 {
     match width {
-        1 => u8_at(packet, at),
-        2 => u16_at(packet, at),
-        4 => u32_at(packet, at),
-        _ => u64_at(packet, at),
+        1 => u8_at(lent, frame, at),
+        2 => u16_at(lent, frame, at),
+        4 => u32_at(lent, frame, at),
+        _ => u64_at(lent, frame, at),
     }
 }
 
@@ -227,10 +230,10 @@ fn with_sign(n: u64, half: u64) -> i64
 }
 
 // A cell of a bounded text column of some length: null, or a text of an even length within it.
-fn bounded_at(packet: &[u8], at: usize, limit: u16) -> CellRead
-    ensures { λ r. ⌜ r ≡ cellRead (boundedAt limit (now (packet .entry)) at) ⌝ }
+fn bounded_at(lent: &[u8], frame: Frame, at: usize, limit: u16) -> CellRead
+    ensures { λ r. ⌜ r ≡ cellRead (boundedAt limit (sourceFrom (now (lent .entry)) frame) at) ⌝ }
 {
-    let size = match u16_at(packet, at) {
+    let size = match u16_at(lent, frame, at) {
         NumberRead::Refused(n) => return CellRead::Refused(n),
         NumberRead::Whole(n) => n,
     };
@@ -240,7 +243,7 @@ fn bounded_at(packet: &[u8], at: usize, limit: u16) -> CellRead
     if !is_within(size.value, limit as u64) {
         return CellRead::Refused(INNER_WRONG);
     }
-    match part_at(packet, size.next, size.value as usize) {
+    match part_at(lent, frame, size.next, size.value as usize) {
         PartRead::Refused(n) => CellRead::Refused(n),
         PartRead::Whole(text) => {
             let part = text.part;
@@ -257,10 +260,10 @@ fn is_within(n: u64, limit: u64) -> bool
 }
 
 // A Max cell: null, or a total that is known or not, and chunks.
-fn max_at(packet: &[u8], at: usize, text: bool) -> CellRead
-    ensures { λ r. ⌜ r ≡ cellRead (maxAt text (now (packet .entry)) at) ⌝ }
+fn max_at(lent: &[u8], frame: Frame, at: usize, text: bool) -> CellRead
+    ensures { λ r. ⌜ r ≡ cellRead (maxAt text (sourceFrom (now (lent .entry)) frame) at) ⌝ }
 {
-    let total = match u64_at(packet, at) {
+    let total = match u64_at(lent, frame, at) {
         NumberRead::Refused(n) => return CellRead::Refused(n),
         NumberRead::Whole(n) => n,
     };
@@ -271,7 +274,8 @@ fn max_at(packet: &[u8], at: usize, text: bool) -> CellRead
         return CellRead::Refused(INNER_WRONG);
     }
     match chunks_at(
-        packet,
+        lent,
+        frame,
         total.next,
         text,
         total.value != UNKNOWN_TOTAL,
@@ -292,14 +296,23 @@ fn goes_with(n: u64, text: bool) -> bool
     (n % 2 == 0) | !text
 }
 
-// The chunks of a Max value from a place on, up to a zero length, where they have a total that is known or not.
-fn chunks_at(packet: &[u8], start: usize, text: bool, known: bool, total: usize) -> PartRead
-    ensures { λ r. ⌜ r ≡ partRead (chunksAt (suc (length (now (packet .entry)))) text known (now (packet .entry)) start total start) ⌝ }
+// The chunks of a Max value from a place on, up to a zero length, where they have a total that is known or not. Each is read from
+// the packet in which the one before it ended, so that no header is passed for every chunk.
+fn chunks_at(
+    lent: &[u8],
+    frame: Frame,
+    start: usize,
+    text: bool,
+    known: bool,
+    total: usize,
+) -> PartRead
+    ensures { λ r. ⌜ r ≡ partRead (chunksAt (suc (length (sourceFrom (now (lent .entry)) frame .bytes))) text known (sourceFrom (now (lent .entry)) frame) start total start) ⌝ }
 {
+    let mut here = frame;
     let mut at = start;
     let mut left = total;
     loop {
-        match chunk_at(packet, at, text, known, left) {
+        match chunk_at(lent, here, at, text, known, left) {
             ChunkRead::Refused(n) => {
                 return PartRead::Refused(n);
             },
@@ -314,6 +327,7 @@ fn chunks_at(packet: &[u8], start: usize, text: bool, known: bool, total: usize)
             },
             ChunkRead::More { len, next } => {
                 left = minus(left, len);
+                here = frame_at(lent, here, next);
                 at = next;
             },
         }
@@ -328,10 +342,10 @@ enum ChunkRead {
 }
 
 // The chunk at a place, where left bytes of a total that is known or not are to come.
-fn chunk_at(packet: &[u8], at: usize, text: bool, known: bool, left: usize) -> ChunkRead
-    ensures { λ r. ⌜ r ≡ chunkRead (chunkAt text known (now (packet .entry)) left at) ⌝ }
+fn chunk_at(lent: &[u8], frame: Frame, at: usize, text: bool, known: bool, left: usize) -> ChunkRead
+    ensures { λ r. ⌜ r ≡ chunkRead (chunkAt text known (sourceFrom (now (lent .entry)) frame) left at) ⌝ }
 {
-    let size = match u32_at(packet, at) {
+    let size = match u32_at(lent, frame, at) {
         NumberRead::Refused(n) => return ChunkRead::Refused(n),
         NumberRead::Whole(n) => n,
     };
@@ -345,7 +359,7 @@ fn chunk_at(packet: &[u8], at: usize, text: bool, known: bool, left: usize) -> C
     if !is_chunk(text, known, left, len) {
         return ChunkRead::Refused(INNER_WRONG);
     }
-    match part_at(packet, size.next, len) {
+    match part_at(lent, frame, size.next, len) {
         PartRead::Refused(n) => ChunkRead::Refused(n),
         PartRead::Whole(chunk) => ChunkRead::More {
             len,

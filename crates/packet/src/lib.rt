@@ -1,13 +1,20 @@
-// The packet header (MS-TDS 2.2.3.1): packet types, status, the header's eight bytes read and written, and the wrapping
-// of a reply. Stands for `PacketType`, `PacketStatus`, `PacketHeader` and `wrap_in_packet` of the Rust.
+// The packet header (MS-TDS 2.2.3.1): packet types, status, the header's eight bytes read and written, the wrapping of a
+// reply in one packet, and its cutting into packets of an agreed size (document 02, 2026-02). Stands for `PacketType`,
+// `PacketStatus`, `PacketHeader` and `wrap_in_packet` of the Rust.
 use refusals::HEADER_TOO_SHORT;
 use refusals::UNKNOWN_PACKET_TYPE;
 ghost use mathlib.Core.Path.{_≡_};
-ghost use Rattle.wire.specs.Over.{overwrite, PlaceAfter};
+ghost use mathlib.Core.Bool.{cond};
+ghost use Prim.Native.Nat.{_+_, _-_, _≤_, _<_, min};
+ghost use lib.ListN.{length, take, drop};
+ghost use Rattle.wire.specs.Over.{overwrite, PlaceAfter, Wrote};
 ghost use Rattle.packet.specs.Types.{byteOf, typeOf};
 ghost use Rattle.packet.specs.Status.{hasBit};
 ghost use Rattle.packet.specs.Header.{newHeader, parsedOf, headerBytes};
 ghost use Rattle.packet.specs.Reply.{replyHeader};
+ghost use Rattle.packet.specs.Cut.{partHeader, partBytes, cutFrom};
+ghost use Rattle.packet.specs.Agreed.{isPacketSize, packetCount, packetsLength, wholePackets, cutLength, cutBuffer};
+ghost use Rattle.packet.specs.Inner.{Stands};
 
 pub const PACKET_HEADER_SIZE: usize = 8;
 
@@ -164,4 +171,198 @@ pub fn write_reply_header(buf: &mut [u8], length: u16) -> usize
     ensures { λ r. ⌜ PlaceAfter (now (buf .entry)) 0 (replyHeader length) r ⌝ }
 {
     PacketHeader::new(PacketType::TabularResult, length, 1).write(buf, 0)
+}
+
+// The least and the most bytes of a packet that can be agreed at login, header included.
+pub const LEAST_PACKET_SIZE: usize = 512;
+
+pub const MOST_PACKET_SIZE: usize = 32767;
+
+// The number of a reply's first packet.
+const FIRST_NUMBER: usize = 1;
+
+// Whether a packet size can be agreed.
+pub fn is_packet_size(size: usize) -> bool
+    ensures { λ r. ⌜ r ≡ isPacketSize size ⌝ }
+{
+    (LEAST_PACKET_SIZE <= size) & (size <= MOST_PACKET_SIZE)
+}
+
+// How many packets of a size a payload of n bytes becomes: none of an empty one, none of a size without room for payload.
+pub fn packet_count(size: u16, n: u16) -> usize
+    ensures { λ r. ⌜ (r ≡ packetCount size n) × (r < 131072) ⌝ }
+{
+    if size <= 8 {
+        return 0;
+    }
+    let room = size as usize - PACKET_HEADER_SIZE;
+    (n as usize + (room - 1)) / room
+}
+
+// How many bytes these packets have: the payload's, and eight for each header.
+pub fn packets_length(size: u16, n: u16) -> usize
+    ensures { λ r. ⌜ r ≡ packetsLength size n ⌝ }
+{
+    n as usize + packet_count(size, n) * 8
+}
+
+// The smaller of two numbers.
+fn least(a: usize, b: usize) -> usize
+    ensures { λ r. ⌜ r ≡ min a b ⌝ }
+{
+    if a < b { a } else { b }
+}
+
+// The status of a reply's packet: the end bit on the last only.
+fn part_status(last: bool) -> PacketStatus
+    ensures { λ r. ⌜ r ≡ record { 0 = cond last 0x01 0x00 } ⌝ }
+{
+    if last {
+        return PacketStatus::end_of_message();
+    }
+    PacketStatus::normal()
+}
+
+// The header of a reply's packet that has len bytes of payload.
+fn part_header(number: usize, last: bool, len: usize) -> PacketHeader
+    requires { ⌜ len < 65528 ⌝ }
+    ensures { λ r. ⌜ r ≡ partHeader number last len ⌝ }
+{
+    PacketHeader {
+        packet_type: PacketType::TabularResult,
+        status: part_status(last),
+        length: (8 + len) as u16,
+        spid: 0,
+        packet_id: (number % 256) as u8,
+        window: 0,
+    }
+}
+
+// Eight bytes of a buffer moved down in it: all are read before one is written.
+fn move_eight(buf: &mut [u8], to: usize, from: usize) -> usize
+    requires { ⌜ (to ≤ from) × (from + 8 ≤ length (now buf)) ⌝ }
+    ensures { λ r. ⌜ Wrote (now (buf .entry)) to (take 8 (drop from (now (buf .entry)))) (now (buf .exit)) r ⌝ }
+{
+    let b0 = buf[from];
+    let b1 = buf[from + 1];
+    let b2 = buf[from + 2];
+    let b3 = buf[from + 3];
+    let b4 = buf[from + 4];
+    let b5 = buf[from + 5];
+    let b6 = buf[from + 6];
+    let b7 = buf[from + 7];
+    buf[to] = b0;
+    buf[to + 1] = b1;
+    buf[to + 2] = b2;
+    buf[to + 3] = b3;
+    buf[to + 4] = b4;
+    buf[to + 5] = b5;
+    buf[to + 6] = b6;
+    buf[to + 7] = b7;
+    to + 8
+}
+
+// Bytes of a buffer moved down in it, one by one.
+fn move_bytes(buf: &mut [u8], to: usize, from: usize, len: usize) -> usize
+    requires { ⌜ (to ≤ from) × (from + len ≤ length (now buf)) ⌝ }
+    ensures { λ r. ⌜ Wrote (now (buf .entry)) to (take len (drop from (now (buf .entry)))) (now (buf .exit)) r ⌝ }
+{
+    let mut i = 0;
+    while i < len {
+        buf[to + i] = buf[from + i];
+        i += 1;
+    }
+    to + len
+}
+
+// Bytes of a buffer moved down in it, eight at a time and the rest one by one; those that stand where they belong are left.
+fn move_down(buf: &mut [u8], to: usize, from: usize, len: usize) -> usize
+    requires { ⌜ (to ≤ from) × (from + len ≤ length (now buf)) ⌝ }
+    ensures { λ r. ⌜ Wrote (now (buf .entry)) to (take len (drop from (now (buf .entry)))) (now (buf .exit)) r ⌝ }
+{
+    if to == from {
+        return to + len;
+    }
+    let mut i = 0;
+    while i + 8 <= len {
+        move_eight(buf, to + i, from + i);
+        i += 8;
+    }
+    move_bytes(buf, to + i, from + i, len - i)
+}
+
+// A packet whose payload stands further on in the buffer.
+fn move_part(buf: &mut [u8], at: usize, number: usize, last: bool, from: usize, len: usize) -> usize
+    requires { ⌜ (len < 65528) × (at + 8 ≤ from) × (from + len ≤ length (now buf)) ⌝ }
+    ensures { λ r. ⌜ Wrote (now (buf .entry)) at (partBytes number last (take len (drop from (now (buf .entry))))) (now (buf .exit)) r ⌝ }
+{
+    let next = part_header(number, last, len).write(buf, at);
+    move_down(buf, next, from, len)
+}
+
+// The packets of the payload that stands in the buffer from a place up to total, where the packets end too.
+fn move_parts(buf: &mut [u8], room: usize, from: usize, total: usize) -> usize
+    requires { ⌜ (room < 65528) × Stands room 0 from total (length (now buf)) ⌝ }
+    ensures { λ r. ⌜ Wrote (now (buf .entry)) 0 (cutFrom (total - from) 1 room (take (total - from) (drop from (now (buf .entry))))) (now (buf .exit)) r ⌝ }
+{
+    let mut at: usize = 0;
+    let mut place = from;
+    let mut number = FIRST_NUMBER;
+    while place < total {
+        let left = total - place;
+        let len = least(left, room);
+        at = move_part(buf, at, number, left <= room, place, len);
+        place = place + len;
+        number = number + 1;
+    }
+    at
+}
+
+// A payload of n bytes cut where it stands, into packets at the buffer's front: it begins after eight bytes for each of them, so
+// that it ends where they do. The answer is their length; where they have no room, nothing is cut, and the answer is 0.
+pub fn cut_in_place(buf: &mut [u8], size: u16, n: u16) -> usize
+    ensures { λ r. ⌜ r ≡ cutLength size n (length (now (buf .entry))) ⌝ }
+    ensures { λ _. ⌜ now (buf .exit) ≡ cutBuffer size n (now (buf .entry)) ⌝ }
+{
+    if size <= 8 {
+        return 0;
+    }
+    let total = packets_length(size, n);
+    if buf.len() < total {
+        return 0;
+    }
+    let room = size as usize - 8;
+    let from = total - n as usize;
+    move_parts(buf, room, from, total)
+}
+
+// A packet with its payload.
+fn put_part(buf: &mut [u8], at: usize, number: usize, last: bool, part: &[u8]) -> usize
+    requires { ⌜ length (now part) < 65528 ⌝ }
+    ensures { λ r. ⌜ Wrote (now (buf .entry)) at (partBytes number last (now (part .entry))) (now (buf .exit)) r ⌝ }
+{
+    let next = part_header(number, last, part.len()).write(buf, at);
+    wire::put_slice(buf, next, part)
+}
+
+// The packets of a payload, cut into a buffer; of a size without room for payload, none.
+pub fn put_packets(buf: &mut [u8], size: u16, payload: &[u8]) -> usize
+    ensures { λ _. ⌜ now (buf .exit) ≡ overwrite (now (buf .entry)) 0 (wholePackets size (now (payload .entry))) ⌝ }
+    ensures { λ r. ⌜ PlaceAfter (now (buf .entry)) 0 (wholePackets size (now (payload .entry))) r ⌝ }
+{
+    if size <= 8 {
+        return 0;
+    }
+    let room = size as usize - PACKET_HEADER_SIZE;
+    let mut at: usize = 0;
+    let mut from: usize = 0;
+    let mut number = FIRST_NUMBER;
+    while from < payload.len() {
+        let left = payload.len() - from;
+        let end = from + least(left, room);
+        at = put_part(buf, at, number, left <= room, &payload[from..end]);
+        from = end;
+        number = number + 1;
+    }
+    at
 }

@@ -1,14 +1,13 @@
 -- What holds of whatever is read: it is shown field by field, in the order in which they are read. Assumes nothing.
 use mathlib.Core.Path.{_≡_, refl}
 use mathlib.Core.Bool.{Bool, true, false, cond}
-use mathlib.Core.List.{List}
 use Prim.Native.Nat.{ℕ, _+_, _≤_}
 use lib.Dec.{leb}
 use lib.ListN.{length, drop}
 use borrow.Author.Tests.{leb-true}
 use Rattle.wire.specs.Le.{leAt}
 use Rattle.wire.specs.declared.Part.{Part}
-use Rattle.payload.specs.Places.{Place, Read, whole, refused, numberAt, partAt, must, then}
+use Rattle.payload.specs.Places.{Source, Place, Read, whole, refused, numberAt, partAt, must, then}
 
 -- Q holds of what is read and of the place after it; a refusal reads nothing
 pub data Each {A : Type 0} (Q : A → Place → Type 0) : Read A → Type 0 where
@@ -31,15 +30,15 @@ module _ {A : Type 0} (Q : A → Place → Type 0) where
   must-each b n x f = cond-each b x (refused n) f (λ e. none)
 
   -- a number and a part that are read lie in the packet
-  pub number-each : (k : ℕ) (p : List ℕ) (at : ℕ) (go : ℕ → Place → Read A) → (at + k ≤ length p → Each Q (go (leAt k (drop at p)) (at + k)))
-      → Each Q (numberAt k p at go)
+  pub number-each : (k : ℕ) (src : Source) (at : ℕ) (go : ℕ → Place → Read A) → (at + k ≤ length (src .bytes) → Each Q (go (leAt k (drop at (src .bytes))) (at + k)))
+      → Each Q (numberAt k src at go)
   unfolding numberAt
-  number-each k p at go f = cond-each (leb (at + k) (length p)) _ _ (λ e. f (leb-true (at + k) (length p) e)) (λ e. none)
+  number-each k src at go f = cond-each (leb (at + k) (length (src .bytes))) _ _ (λ e. f (leb-true (at + k) (length (src .bytes)) e)) (λ e. none)
 
-  pub part-each : (n : ℕ) (p : List ℕ) (at : ℕ) (go : Part → Place → Read A) → (at + n ≤ length p → Each Q (go (record { start = at; len = n }) (at + n)))
-      → Each Q (partAt n p at go)
+  pub part-each : (n : ℕ) (src : Source) (at : ℕ) (go : Part → Place → Read A) → (at + n ≤ length (src .bytes) → Each Q (go (record { start = at; len = n }) (at + n)))
+      → Each Q (partAt n src at go)
   unfolding partAt
-  part-each n p at go f = cond-each (leb (at + n) (length p)) _ _ (λ e. f (leb-true (at + n) (length p) e)) (λ e. none)
+  part-each n src at go f = cond-each (leb (at + n) (length (src .bytes))) _ _ (λ e. f (leb-true (at + n) (length (src .bytes)) e)) (λ e. none)
 
 pub then-each : {A B : Type 0} (P : A → Place → Type 0) (Q : B → Place → Type 0) (x : Read A) (go : A → Place → Read B)
     → Each P x → ((a : A) (to : ℕ) → P a to → Each Q (go a to)) → Each Q (then x go)

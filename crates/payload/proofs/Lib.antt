@@ -2,3 +2,11 @@ pub mod Standing
 pub mod CodeReads
 pub mod CodeNumbers
 pub mod Each
+pub mod Sources
+pub mod Walk
+pub mod Onto
+pub mod Reach
+pub mod Spots
+pub mod Agree
+pub mod Joined
+pub mod Payloads

@@ -1,4 +1,4 @@
--- What stands at a place of a packet, as fields, and how the definitions of reading go on from it. Assumes nothing.
+-- What stands at a place of a source, as fields, and how the definitions of reading go on from it. Assumes nothing.
 use mathlib.Core.Path.{_≡_, refl, sym, ap, _∙_}
 use mathlib.Core.Bool.{Bool, true, false, cond}
 use mathlib.Core.List.{List, _∷_, _++_}
@@ -12,12 +12,12 @@ use Rattle.wire.specs.Fields.{Field, word, raw, flat}
 use Rattle.wire.specs.Part.{partBytes}
 use Rattle.wire.specs.declared.Part.{Part}
 use Rattle.wire.proofs.Le.{length-le, le-exact}
-use Rattle.payload.specs.Places.{Place, Read, whole, numberAt, partAt, must, then}
+use Rattle.payload.specs.Places.{Source, Place, Read, whole, numberAt, partAt, must, then}
 
--- the fields fs are all that stands in a packet from a place on
-pub record At (p : List ℕ) (at : Place) (fs : List Field) : Type 0 where
-  pub inside : at ≤ length p
-  pub is : drop at p ≡ flat fs
+-- the fields fs are all that stands in a source from a place on
+pub record At (src : Source) (at : Place) (fs : List Field) : Type 0 where
+  pub inside : at ≤ length (src .bytes)
+  pub is : drop at (src .bytes) ≡ flat fs
 
 -- ---- past a field
 
@@ -27,34 +27,34 @@ past p at x s h e = (
   sym (drop-drop (length x) at p) ∙ ap (λ (l : List ℕ). drop (length x) l) e ∙ drop-at x s (length x) refl,
 )
 
-module _ {p : List ℕ} {at : Place} {fs : List Field} where
-  pub past-word : {k n : ℕ} → At p at (word k n ∷ fs) → At p (at + k) fs
+module _ {src : Source} {at : Place} {fs : List Field} where
+  pub past-word : {k n : ℕ} → At src at (word k n ∷ fs) → At src (at + k) fs
   unfolding flat
   past-word {k} {n} a =
-      let h = rw (length-le k n) at (past p at (le k n) (flat fs) (a .inside) (a .is)) in
+      let h = rw (length-le k n) at (past (src .bytes) at (le k n) (flat fs) (a .inside) (a .is)) in
       record { inside = h .0; is = h .1 }
 
-  pub past-raw : {x : List ℕ} (n : ℕ) → length x ≡ n → At p at (raw x ∷ fs) → At p (at + n) fs
+  pub past-raw : {x : List ℕ} (n : ℕ) → length x ≡ n → At src at (raw x ∷ fs) → At src (at + n) fs
   unfolding flat
   past-raw {x} n e a =
-      let h = rw e at (past p at x (flat fs) (a .inside) (a .is)) in
+      let h = rw e at (past (src .bytes) at x (flat fs) (a .inside) (a .is)) in
       record { inside = h .0; is = h .1 }
 
   -- the bytes of a part
-  pub part-is : {x : List ℕ} (n : ℕ) → length x ≡ n → At p at (raw x ∷ fs) → partBytes p (record { start = at; len = n }) ≡ x
+  pub part-is : {x : List ℕ} (n : ℕ) → length x ≡ n → At src at (raw x ∷ fs) → partBytes (src .bytes) (record { start = at; len = n }) ≡ x
   unfolding flat partBytes
   part-is {x} n e a = ap (λ (l : List ℕ). take n l) (a .is) ∙ take-at x (flat fs) n e
 
   -- ---- what is read there, and where it goes on
 
-  pub number-at : {A : Type 0} {k n : ℕ} (go : ℕ → Place → Read A) → n < 256 ^ k → At p at (word k n ∷ fs) → numberAt k p at go ≡ go n (at + k)
+  pub number-at : {A : Type 0} {k n : ℕ} (go : ℕ → Place → Read A) → n < 256 ^ k → At src at (word k n ∷ fs) → numberAt k src at go ≡ go n (at + k)
   unfolding numberAt flat
-  number-at {k = k} {n = n} go h a = rw (le-leb (at + k) (length p) (past-word a .inside), a .is, le-exact k n (flat fs) h)
+  number-at {k = k} {n = n} go h a = rw (le-leb (at + k) (length (src .bytes)) (past-word a .inside), a .is, le-exact k n (flat fs) h)
 
-  pub part-at : {A : Type 0} {x : List ℕ} (n : ℕ) (go : Part → Place → Read A) → length x ≡ n → At p at (raw x ∷ fs)
-      → partAt n p at go ≡ go (record { start = at; len = n }) (at + n)
+  pub part-at : {A : Type 0} {x : List ℕ} (n : ℕ) (go : Part → Place → Read A) → length x ≡ n → At src at (raw x ∷ fs)
+      → partAt n src at go ≡ go (record { start = at; len = n }) (at + n)
   unfolding partAt
-  part-at n go e a = rw (le-leb (at + n) (length p) (past-raw n e a .inside))
+  part-at n go e a = rw (le-leb (at + n) (length (src .bytes)) (past-raw n e a .inside))
 
 -- ---- tests
 

@@ -1,11 +1,21 @@
-// Numbers and parts of a packet, read at a place: each with the place after it, or 24 where the packet ends within it.
+// Numbers and parts of a payload, read at a place: each with the place after it, or the refusal of reading on where the payload
+// ends within it. A field that its frame holds whole is read there; only one that does not has the headers after it tested.
+pub mod frames;
+pub mod joining;
+
+use frames::Frame;
+use frames::Reached;
+use frames::ends_within;
+use frames::lies;
+use frames::reach;
+use frames::walk;
 use refusals::CUT;
 ghost use mathlib.Core.Path.{_≡_};
-ghost use Prim.Native.Nat.{_+_, _-_, _≤_, _<_, _^_};
+ghost use mathlib.Core.Bool.{_&&_};
+ghost use Prim.Native.Nat.{_+_, _-_, _*_, _≤_, _<_, _^_};
 ghost use lib.Dec.{leb};
-ghost use lib.ListN.{length, drop};
-ghost use Rattle.wire.specs.Le.{leAt};
 ghost use Rattle.payload.specs.Places.{whole, numberAt, partAt};
+ghost use Rattle.payload.specs.Frames.{lies, sourceFrom};
 ghost use Rattle.payload.specs.Answers.{numberRead, partRead, Below};
 use wire::Part;
 
@@ -32,85 +42,118 @@ pub enum PartRead {
 }
 
 // The number at a place, of one byte, of two, four or eight, the lowest first.
-pub fn u8_at(packet: &[u8], at: usize) -> NumberRead
-    ensures { λ r. ⌜ (r ≡ numberRead (numberAt 1 (now (packet .entry)) at whole)) × Below 1 r ⌝ }
+pub fn u8_at(lent: &[u8], frame: Frame, at: usize) -> NumberRead
+    ensures { λ r. ⌜ (r ≡ numberRead (numberAt 1 (sourceFrom (now (lent .entry)) frame) at whole)) × Below 1 r ⌝ }
 {
-    number_at(packet, at, 1)
-}
-
-pub fn u16_at(packet: &[u8], at: usize) -> NumberRead
-    ensures { λ r. ⌜ (r ≡ numberRead (numberAt 2 (now (packet .entry)) at whole)) × Below 2 r ⌝ }
-{
-    number_at(packet, at, 2)
-}
-
-pub fn u32_at(packet: &[u8], at: usize) -> NumberRead
-    ensures { λ r. ⌜ (r ≡ numberRead (numberAt 4 (now (packet .entry)) at whole)) × Below 4 r ⌝ }
-{
-    number_at(packet, at, 4)
-}
-
-pub fn u64_at(packet: &[u8], at: usize) -> NumberRead
-    ensures { λ r. ⌜ (r ≡ numberRead (numberAt 8 (now (packet .entry)) at whole)) × Below 8 r ⌝ }
-{
-    number_at(packet, at, 8)
-}
-
-// The number of k bytes at a place, the lowest first.
-fn number_at(packet: &[u8], at: usize, k: usize) -> NumberRead
-    requires { ⌜ k ≤ 8 ⌝ }
-    ensures { λ r. ⌜ (r ≡ numberRead (numberAt k (now (packet .entry)) at whole)) × Below k r ⌝ }
-{
-    if !has_bytes(packet, at, k) {
-        return NumberRead::Refused(CUT);
+    if !holds(lent, frame, at, 1) {
+        return number_across(lent, frame, at, 1);
     }
     NumberRead::Whole(NumberAt {
-        value: number(packet, at, k),
+        value: wide(lent[at + 8 * frame.number]),
+        next: at + 1,
+    })
+}
+
+pub fn u16_at(lent: &[u8], frame: Frame, at: usize) -> NumberRead
+    ensures { λ r. ⌜ (r ≡ numberRead (numberAt 2 (sourceFrom (now (lent .entry)) frame) at whole)) × Below 2 r ⌝ }
+{
+    if !holds(lent, frame, at, 2) {
+        return number_across(lent, frame, at, 2);
+    }
+    NumberRead::Whole(NumberAt {
+        value: wire::get_u16_le(lent, at + 8 * frame.number) as u64,
+        next: at + 2,
+    })
+}
+
+pub fn u32_at(lent: &[u8], frame: Frame, at: usize) -> NumberRead
+    ensures { λ r. ⌜ (r ≡ numberRead (numberAt 4 (sourceFrom (now (lent .entry)) frame) at whole)) × Below 4 r ⌝ }
+{
+    if !holds(lent, frame, at, 4) {
+        return number_across(lent, frame, at, 4);
+    }
+    NumberRead::Whole(NumberAt {
+        value: wire::get_u32_le(lent, at + 8 * frame.number) as u64,
+        next: at + 4,
+    })
+}
+
+pub fn u64_at(lent: &[u8], frame: Frame, at: usize) -> NumberRead
+    ensures { λ r. ⌜ (r ≡ numberRead (numberAt 8 (sourceFrom (now (lent .entry)) frame) at whole)) × Below 8 r ⌝ }
+{
+    if !holds(lent, frame, at, 8) {
+        return number_across(lent, frame, at, 8);
+    }
+    NumberRead::Whole(NumberAt {
+        value: wire::get_u64_le(lent, at + 8 * frame.number),
+        next: at + 8,
+    })
+}
+
+// Whether a frame that the lent bytes have holds n bytes from a place on.
+fn holds(lent: &[u8], frame: Frame, at: usize, n: usize) -> bool
+    ensures { λ r. ⌜ r ≡ (lies (now (lent .entry)) frame && leb (at + n) (frame .end)) ⌝ }
+{
+    if !lies(lent, frame) {
+        return false;
+    }
+    ends_within(frame, at, n)
+}
+
+// A number of k bytes that its frame does not hold whole: each byte's packet is found from that of the byte before it.
+fn number_across(lent: &[u8], frame: Frame, at: usize, k: usize) -> NumberRead
+    requires { ⌜ (1 ≤ k) × (k ≤ 8) ⌝ }
+    ensures { λ r. ⌜ (r ≡ numberRead (numberAt k (sourceFrom (now (lent .entry)) frame) at whole)) × Below k r ⌝ }
+{
+    if !lies(lent, frame) {
+        return NumberRead::Refused(CUT);
+    }
+    let mut here = frame;
+    let mut value: u64 = 0;
+    let mut i = 0;
+    while i < k {
+        match walk(lent, here, at + i, 1) {
+            Reached::Past(n) => return NumberRead::Refused(n),
+            Reached::In(next) => {
+                value += worth(lent[at + i + 8 * next.number], i);
+                here = next;
+                i += 1;
+            },
+        }
+    }
+    NumberRead::Whole(NumberAt {
+        value,
         next: at + k,
     })
 }
 
-// The part of n bytes at a place.
-pub fn part_at(packet: &[u8], at: usize, n: usize) -> PartRead
-    ensures { λ r. ⌜ r ≡ partRead (partAt n (now (packet .entry)) at whole) ⌝ }
+// What a byte is worth in a number, where i bytes are below it.
+fn worth(b: u8, i: usize) -> u64
+    requires { ⌜ i < 8 ⌝ }
+    ensures { λ r. ⌜ (r ≡ b * 256 ^ i) × (b < 256) ⌝ }
 {
-    if !has_bytes(packet, at, n) {
-        return PartRead::Refused(CUT);
-    }
-    PartRead::Whole(PartAt {
-        part: Part { start: at, len: n },
-        next: at + n,
-    })
-}
-
-// Whether n bytes stand from a place on.
-fn has_bytes(packet: &[u8], at: usize, n: usize) -> bool
-    ensures { λ r. ⌜ r ≡ leb (at + n) (length (now (packet .entry))) ⌝ }
-{
-    if packet.len() < at {
-        return false;
-    }
-    n <= packet.len() - at
-}
-
-// The number that k bytes from a place on are.
-fn number(packet: &[u8], at: usize, k: usize) -> u64
-    requires { ⌜ (at + k ≤ length (now packet)) × (k ≤ 8) ⌝ }
-    ensures { λ r. ⌜ (r ≡ leAt k (drop at (now (packet .entry)))) × (r < 256 ^ k) ⌝ }
-{
-    let mut n: u64 = 0;
-    let mut i = k;
-    while 0 < i {
-        i -= 1;
-        n = n * 256 + wide(packet[at + i]);
-    }
-    n
+    (b as u64) << (8 * i)
 }
 
 fn wide(b: u8) -> u64
     ensures { λ r. ⌜ (r ≡ b) × (r < 256) ⌝ }
 {
     b as u64
+}
+
+// The part of n bytes at a place.
+pub fn part_at(lent: &[u8], frame: Frame, at: usize, n: usize) -> PartRead
+    ensures { λ r. ⌜ r ≡ partRead (partAt n (sourceFrom (now (lent .entry)) frame) at whole) ⌝ }
+{
+    if !holds(lent, frame, at, n) {
+        if let Reached::Past(r) = reach(lent, frame, at, n) {
+            return PartRead::Refused(r);
+        }
+    }
+    PartRead::Whole(PartAt {
+        part: Part { start: at, len: n },
+        next: at + n,
+    })
 }
 
 // What is left of a number where some is taken; nothing where more is.

@@ -1,17 +1,16 @@
 -- What is known of a position that is not refused: its counts, and that the types that it holds are column types. Assumes nothing.
 use mathlib.Core.Path.{_≡_, ap}
-use mathlib.Core.Bool.{Bool, true, _&&_}
+use mathlib.Core.Bool.{Bool, true, false, _&&_}
 use mathlib.Core.List.{List}
 use Prim.Native.Nat.{ℕ, zero, suc, _+_, _-_, _≤_, _<_}
 use native.Mathlib.Omega.{arith}
 use native.Mathlib.Decide.{decLe}
 use native.Mathlib.Nat.{lt-of-not-le}
 use lib.Dec.{leb}
-use lib.ListN.{getD}
+use lib.ListN.{length, getD, List·getD-eq-default}
 use borrow.Author.Tests.{leb-true}
 use Rattle.cells.proofs.Types.{both}
 use Rattle.reader.specs.declared.Position.{Position}
-use Rattle.payload.specs.Places.{inPacket}
 use Rattle.cells.specs.Cells.{isType}
 use Rattle.reader.specs.Positions.{held, stands}
 
@@ -34,24 +33,28 @@ held-each (suc n) types limits i e h =
       | no l ↦ held-each n types limits i (w .1) (lt-of-not-le l)
     ]
 
+-- past the types there is none
+pub held-past : (n : ℕ) (types limits : List ℕ) → length types ≤ 128 → 128 < n → held n types limits ≡ false
+unfolding held isType
+held-past zero types limits l h = absurd (omega arith)
+held-past (suc n) types limits l h = rw (List·getD-eq-default types 0 {n = n} (omega arith))
+
 -- ---- positions
 
-pub record Standing (p : List ℕ) (pos : Position) : Type 0 where
+pub record Standing (pos : Position) : Type 0 where
   pub few : pos .count ≤ 128
   pub columns : pos .«columns_left» ≤ pos .count
   pub cells : pos .«cells_left» ≤ pos .count
   pub types : held (pos .count - pos .«columns_left») (pos .types) (pos .limits) ≡ true
 
-pub standing : (p : List ℕ) (pos : Position) → stands p pos ≡ true → Standing p pos
+pub standing : (pos : Position) → stands pos ≡ true → Standing pos
 unfolding stands
-standing p pos e =
+standing pos e =
     let h : Bool = held (pos .count - pos .«columns_left») (pos .types) (pos .limits) in
     let cells : Bool = leb (pos .«cells_left») (pos .count) in
     let columns : Bool = leb (pos .«columns_left») (pos .count) in
     let few : Bool = leb (pos .count) 128 in
-    let place : Bool = inPacket p (pos .place) in
-    let e1 = both (place && few && columns && cells) h e in
-    let e2 = both (place && few && columns) cells (e1 .0) in
-    let e3 = both (place && few) columns (e2 .0) in
-    let e4 = both place few (e3 .0) in
-    record { few = leb-true _ _ (e4 .1); columns = leb-true _ _ (e3 .1); cells = leb-true _ _ (e2 .1); types = e1 .1 }
+    let e1 = both (few && columns && cells) h e in
+    let e2 = both (few && columns) cells (e1 .0) in
+    let e3 = both few columns (e2 .0) in
+    record { few = leb-true _ _ (e3 .0); columns = leb-true _ _ (e3 .1); cells = leb-true _ _ (e2 .1); types = e1 .1 }

@@ -7,17 +7,18 @@ use native.Mathlib.Omega.{arith}
 use Rattle.wire.specs.Le.{leAt, le}
 use Rattle.wire.specs.Fields.{flat}
 use Rattle.packet.specs.Status.{hasBit}
-use Rattle.packet.specs.Reply.{replyHeader, packetOf}
 use Rattle.wire.specs.Be.{be}
 use Rattle.text.specs.Units.{unitsOf, units}
 use Rattle.text.specs.Surrogates.{surrogateOf, surrogates, paired, anyHigh, wellFormed, hasPair}
 use Rattle.token.specs.Types.{lengthWidth, collationSize}
-use Rattle.token.specs.Tokens.{Token, metadata, column, row, cell, done, message, EncodedCell, integer, noInteger, bounded, long, noLong, nameCount, messageLength, tokenBytes, states}
+use Rattle.token.specs.Tokens.{Token, metadata, column, row, cell, done, message, EncodedCell, integer, noInteger, bounded, long, noLong, nameCount, messageLength, tokenBytes, joined, states}
 use Rattle.cells.specs.Cells.{isType}
 use Rattle.reader.specs.Positions.{freshPosition}
 use Rattle.reader.specs.Reader.{answerOf}
 use Rattle.reader.specs.Meaning.{meaningOf, kth}
-use Rattle.reader.proofs.WellFormed.{WellFormed, tokensPacket}
+use Rattle.payload.specs.Packets.{packetsIn, payloadOf}
+use Rattle.payload.proofs.Joined.{Whole}
+use Rattle.reader.proofs.WellFormed.{WellFormed}
 use Rattle.reader.proofs.Sendable.{column-ok, done-ok, message-ok, metadata-then, column-then, row-then, cell-then, message-then, done-then, done-last}
 use Rattle.reader.proofs.ReadBack.{reads-back}
 
@@ -61,6 +62,11 @@ well-formed =
     (metadata-then (omega arith)
     (done-last (done-ok (omega arith) (omega arith) (omega arith)) refl))))))))))))))))))))
 
-pub comes-back : (k : ℕ) → meaningOf (tokensPacket every-kind) (answerOf k (tokensPacket every-kind) freshPosition) ≡ kth (map states every-kind) k
-unfolding tokensPacket packetOf replyHeader be le flat tokenBytes lengthWidth nameCount messageLength
-comes-back k = reads-back every-kind well-formed (omega arith) k
+-- its payload
+abbrev pub payload : List ℕ
+payload = joined (map tokenBytes every-kind)
+
+-- over whatever packets have its bytes: one, or as many as a size makes
+pub comes-back : (l : List ℕ) → Whole (packetsIn l) payload → (k : ℕ) → meaningOf (payloadOf (packetsIn l)) (answerOf k l freshPosition) ≡ kth (map states every-kind) k
+unfolding be le flat tokenBytes lengthWidth nameCount messageLength
+comes-back l w k = reads-back l every-kind well-formed w (omega arith) (omega arith) k

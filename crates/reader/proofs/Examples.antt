@@ -1,9 +1,9 @@
--- Worked packets: what a run over each means, in one table that one theorem covers by computation. Cases 1 to 3 of document 01,
+-- Worked packets (document 02, 2026-02, too): what a run over each means, in one table that one theorem covers by computation. Cases 1 to 3 of document 01,
 -- a message, cells, and the refusals of a sender. Assumes nothing.
 use mathlib.Core.Path.{_≡_, refl}
 use mathlib.Core.Bool.{false}
 use mathlib.Core.List.{List, [], _∷_, _++_, map}
-use Prim.Native.Nat.{ℕ, zero, suc}
+use Prim.Native.Nat.{ℕ, zero, suc, _+_}
 use lib.IntN.{pos, negsuc}
 use lib.ListN.{length, replicate}
 use Rattle.wire.specs.Le.{leAt, le}
@@ -17,10 +17,12 @@ use Rattle.token.specs.Types.{lengthWidth, collationSize}
 use Rattle.token.specs.Tokens.{metadata, column, row, cell, done, message, number, part, null, signed}
 use Rattle.reader.specs.declared.Position.{Position}
 use Rattle.payload.specs.Places.{numberAt, partAt, must, then}
+use Rattle.payload.specs.Packets.{isPart, headed, nextOf, packetsFrom, packetsIn, payloadOf, stopOf, sourceOf}
+use Rattle.payload.specs.Positions.{placeFrom, placeIn, cornerFrom, cornerOf}
 use Rattle.cells.specs.Cells.{isCode, isType, typeAt, integerAt, boundedAt, isChunk, isLast, chunkAt, chunksAt, maxAt, cellAt}
 use Rattle.reader.specs.ReadTokens.{columnAt, metadataAt, rowAt, doneAt, textAt, textsAt, messageAt, tokenAt}
 use Rattle.reader.specs.Positions.{freshPosition, held, stands, after}
-use Rattle.reader.specs.Reader.{rowCellAt, nextAt, isReply, stepOf}
+use Rattle.reader.specs.Reader.{rowCellAt, nextAt, stepOf}
 use Rattle.cells.specs.Values.{chunkBytes}
 use Rattle.reader.specs.Meaning.{Meaning, token, ended, refusal, meaningOf}
 
@@ -83,7 +85,7 @@ bytesRead ts = rowRead 0xA5 0xFFFF [] ts
 
 -- ---- the table
 
--- a packet, where a run over it starts, and what its first answers mean
+-- packets, where a run over them starts, and what its first answers mean
 pub record Example : Type 0 where
   pub packet : List ℕ
   pub from : Position
@@ -91,6 +93,15 @@ pub record Example : Type 0 where
 
 abbrev over : List ℕ → List Meaning → Example
 over p ts = record { packet = p; from = freshPosition; meanings = ts }
+
+-- from a place of a packet
+abbrev at : ℕ → ℕ → List ℕ → List Meaning → Example
+at i place p ts =
+    record {
+      packet = p;
+      from = record { packet = i; place = place; count = 0; types = replicate 128 0; limits = replicate 128 0; «columns_left» = 0; «cells_left» = 0; over = false };
+      meanings = ts;
+    }
 
 abbrev reply : List ℕ → List Meaning → Example
 reply payload ts = over (packetOf payload) ts
@@ -100,11 +111,11 @@ abbrev refuses : ℕ → List ℕ → Example
 refuses n payload = reply payload (refusal n ∷ refusal n ∷ [])
 
 -- a position of a count, columns and cells to come and one held type, over a reply that is one DONE
-abbrev forged : ℕ → ℕ → ℕ → ℕ → ℕ → ℕ → Meaning → Example
-forged place count columns cells code limit t =
+abbrev forged : ℕ → ℕ → ℕ → ℕ → ℕ → ℕ → ℕ → Meaning → Example
+forged i place count columns cells code limit t =
     record {
       packet = packetOf (doneOf 0 0);
-      from = record { place = place; count = count; types = code ∷ replicate 127 0x26; limits = limit ∷ replicate 127 1; «columns_left» = columns; «cells_left» = cells; over = false };
+      from = record { packet = i; place = place; count = count; types = code ∷ replicate 127 0x26; limits = limit ∷ replicate 127 1; «columns_left» = columns; «cells_left» = cells; over = false };
       meanings = t ∷ [];
     }
 
@@ -134,9 +145,8 @@ framed =
     over (4 ∷ 1 ∷ 0 ∷ 7 ∷ 0 ∷ 0 ∷ 1 ∷ []) (refusal 8 ∷ [])
     ∷ over (0x02 ∷ 1 ∷ 0 ∷ 8 ∷ 0 ∷ 0 ∷ 1 ∷ 0 ∷ []) (refusal 9 ∷ [])
     ∷ over (0x01 ∷ 1 ∷ 0 ∷ 8 ∷ 0 ∷ 0 ∷ 1 ∷ 0 ∷ []) (refusal 23 ∷ [])
-    ∷ over (4 ∷ 0x02 ∷ 0 ∷ 8 ∷ 0 ∷ 0 ∷ 1 ∷ 0 ∷ []) (refusal 23 ∷ [])
+    ∷ over (4 ∷ 1 ∷ 0 ∷ 8 ∷ 0 ∷ 0 ∷ 1 ∷ 0 ∷ []) (refusal 23 ∷ [])
     ∷ over (4 ∷ 1 ∷ 0 ∷ 9 ∷ 0 ∷ 0 ∷ 1 ∷ 0 ∷ []) (refusal 23 ∷ [])
-    ∷ refuses 24 []
     ∷ refuses 24 (0xFD ∷ 0 ∷ [])
     ∷ reply (doneOf 1 0) (token (done 1 0xC1 0) ∷ refusal 24 ∷ [])
     ∷ refuses 25 (0xD2 ∷ [])
@@ -172,28 +182,73 @@ wrong =
     ∷ refuses 24 (error2 18 0 ++ (1 ∷ []))
     ∷ []
 
--- 24 for a position in the header, past the end, of 129 columns, past its columns or cells, or that holds a type that is none
+-- ---- packets one after another
+
+-- a packet of a status and a number, whose payload is under 248 bytes
+abbrev sent : ℕ → ℕ → List ℕ → List ℕ
+sent status i payload = 0x04 ∷ status ∷ 0 ∷ (8 + length payload) ∷ 0 ∷ 0 ∷ i ∷ 0 ∷ payload
+
+abbrev last : List ℕ
+last = doneOf 0x10 0
+
+abbrev lastRead : Meaning
+lastRead = token (done 0x10 0xC1 0)
+
+-- where packets end or not, and what follows them: the worked inputs of the request
+abbrev pub joinedPackets : List Example
+joinedPackets =
+    over (sent 1 1 last) (lastRead ∷ ended ∷ ended ∷ [])
+    ∷ over [] (refusal 8 ∷ [])
+    ∷ over (sent 1 2 last) (refusal 33 ∷ [])
+    ∷ over (sent 0 1 last) (lastRead ∷ refusal 34 ∷ refusal 34 ∷ [])
+    ∷ over (sent 1 1 last ++ (0 ∷ [])) (lastRead ∷ refusal 34 ∷ [])
+    ∷ over (sent 0 1 last ++ (0 ∷ [])) (lastRead ∷ refusal 8 ∷ [])
+    ∷ over (sent 0 1 last ++ replicate 8 0) (lastRead ∷ refusal 9 ∷ [])
+    ∷ over (sent 0 1 last ++ sent 1 2 (0xFD ∷ [])) (lastRead ∷ refusal 26 ∷ [])
+    ∷ over (sent 0 1 last ++ sent 1 3 (0xFD ∷ [])) (lastRead ∷ refusal 33 ∷ [])
+    ∷ over (sent 0 1 last ++ (0x03 ∷ 1 ∷ 0 ∷ 9 ∷ 0 ∷ 0 ∷ 2 ∷ 0 ∷ 0xFD ∷ [])) (lastRead ∷ refusal 23 ∷ [])
+    ∷ over (sent 1 1 (0xFD ∷ 0x10 ∷ [])) (refusal 24 ∷ [])
+    ∷ over (sent 1 1 (0xFD ∷ 0x10 ∷ []) ++ (0 ∷ [])) (refusal 34 ∷ [])
+    ∷ over (sent 0 1 (0xFD ∷ 0x10 ∷ [])) (refusal 34 ∷ [])
+    ∷ over (sent 0 1 (0xFD ∷ 0x10 ∷ []) ++ sent 1 2 (0 ∷ 0xC1 ∷ replicate 9 0)) (lastRead ∷ ended ∷ [])
+    ∷ over (sent 1 1 []) (refusal 23 ∷ [])
+    ∷ over (sent 0 1 (0xEE ∷ []) ++ (0x99 ∷ [])) (refusal 25 ∷ [])
+    -- a row, its cell and the DONE after it over three packets, and a part of a name that crosses a border
+    ∷ over (sent 0 1 (column1 ++ (0x26 ∷ 4 ∷ 1 ∷ 0x6E ∷ [])) ++ sent 0 2 (0 ∷ 0xD1 ∷ 4 ∷ 7 ∷ []) ++ sent 1 3 (0 ∷ 0 ∷ 0 ∷ doneOf 0 1))
+    (token (metadata 1) ∷ token (column 0 0 0x26 4 [] (0x6E ∷ 0 ∷ [])) ∷ token row ∷ token (cell (number (pos 7))) ∷ token (done 0 0xC1 1) ∷ ended ∷ [])
+    ∷ []
+
+-- 24 for a position in the header, past the packet's end, in packet 0, past the packets or after an end bit, of 129 columns, past its
+-- columns or cells, or that holds a type that is none; the packets are tested first
 abbrev pub positions : List Example
 positions =
-    forged 8 1 0 0 0x26 4 (token (done 0 0xC1 0))
-    ∷ forged 7 0 0 0 0x26 4 (refusal 24)
-    ∷ forged 22 0 0 0 0x26 4 (refusal 24)
-    ∷ forged 8 129 0 0 0x26 4 (refusal 24)
-    ∷ forged 8 1 2 0 0x26 4 (refusal 24)
-    ∷ forged 8 1 0 2 0x26 4 (refusal 24)
-    ∷ forged 8 1 0 0 0x38 4 (refusal 24)
-    ∷ forged 8 1 0 0 0xE7 0 (refusal 24)
+    forged 1 8 1 0 0 0x26 4 (token (done 0 0xC1 0))
+    ∷ forged 1 7 0 0 0 0x26 4 (refusal 24)
+    ∷ forged 1 22 0 0 0 0x26 4 (refusal 24)
+    ∷ forged 0 8 0 0 0 0x26 4 (refusal 24)
+    ∷ forged 2 8 0 0 0 0x26 4 (refusal 24)
+    ∷ forged 1 8 129 0 0 0x26 4 (refusal 24)
+    ∷ forged 1 8 1 2 0 0x26 4 (refusal 24)
+    ∷ forged 1 8 1 0 2 0x26 4 (refusal 24)
+    ∷ forged 1 8 1 0 0 0x38 4 (refusal 24)
+    ∷ forged 1 8 1 0 0 0xE7 0 (refusal 24)
+    -- past an end bit nothing is tested; a packet's end and the next one's front are one place
+    ∷ at 2 8 (sent 1 1 last ++ (0 ∷ [])) (refusal 24 ∷ [])
+    ∷ at 2 8 (sent 0 1 last ++ (0 ∷ [])) (refusal 8 ∷ [])
+    ∷ at 0 8 (sent 1 2 last) (refusal 33 ∷ [])
+    ∷ at 1 9 (sent 0 1 (0 ∷ []) ++ sent 1 2 last) (lastRead ∷ ended ∷ [])
+    ∷ at 2 8 (sent 0 1 (0 ∷ []) ++ sent 1 2 last) (lastRead ∷ ended ∷ [])
     ∷ []
 
 -- what the first k answers of a run mean
 abbrev pub trace : ℕ → List ℕ → Position → List Meaning
-trace zero p at = []
-trace (suc k) p at = meaningOf p (stepOf p at .answer) ∷ trace k p (stepOf p at .next)
+trace zero p from = []
+trace (suc k) p from = meaningOf (payloadOf (packetsIn p)) (stepOf p from .answer) ∷ trace k p (stepOf p from .next)
 
 unfoldable pub examples : List Example
-examples = replies ++ framed ++ wrong ++ positions
+examples = replies ++ framed ++ wrong ++ joinedPackets ++ positions
 
 -- every run means what its example says
 pub examples-hold : map (λ e. trace (length (e .meanings)) (e .packet) (e .from)) examples ≡ map (λ e. e .meanings) examples
-unfolding examples leAt le beAt be first partBytes types typeIn typeOf hasBit parsedOf replyHeader packetOf lengthWidth collationSize signed numberAt partAt must then isCode isType typeAt integerAt boundedAt isChunk isLast chunkAt chunksAt maxAt cellAt columnAt metadataAt rowAt doneAt textAt textsAt messageAt tokenAt held stands after rowCellAt nextAt isReply stepOf chunkBytes
+unfolding examples leAt le beAt be first partBytes types typeIn typeOf hasBit parsedOf replyHeader packetOf lengthWidth collationSize signed numberAt partAt must then isCode isType typeAt integerAt boundedAt isChunk isLast chunkAt chunksAt maxAt cellAt columnAt metadataAt rowAt doneAt textAt textsAt messageAt tokenAt held stands after rowCellAt nextAt stepOf chunkBytes isPart headed nextOf packetsFrom packetsIn payloadOf stopOf sourceOf placeFrom placeIn cornerFrom cornerOf
 examples-hold = refl

@@ -13,6 +13,7 @@ use Rattle.reader.specs.declared.Position.{Position}
 use Rattle.cells.specs.Cells.{isType}
 use Rattle.reader.specs.Positions.{held, stands}
 use Rattle.reader.proofs.WellFormed.{ColumnType, Phase}
+use Rattle.payload.specs.Places.{Source}
 use Rattle.payload.proofs.Standing.{At}
 
 -- ---- a list whose first entries are those of some columns
@@ -54,10 +55,9 @@ good-at (c ∷ cs) d (suc i) h g = good-at cs d i (le-of-suc-le-suc h) (g .1)
 
 -- ---- a position and a phase
 
--- the position pos of the packet p stands where a list stands, before the fields fs; over: whether the last DONE was read
-pub record Holds (p : List ℕ) (pos : Position) (over : Bool) (ph : Phase) (fs : List Field) : Type 0 where
-  pub here : At p (pos .place) fs
-  pub body : 8 ≤ pos .place
+-- a position pos, at a place of the source p, stands where a list stands, before the fields fs; over: whether the last DONE was read
+pub record Holds (p : Source) (pos : Position) (at : ℕ) (over : Bool) (ph : Phase) (fs : List Field) : Type 0 where
+  pub here : At p at fs
   pub count-is : pos .count ≡ length (ph .columns) + ph .coming
   pub count≤ : pos .count ≤ 128
   pub types# : length (pos .types) ≡ 128
@@ -72,7 +72,7 @@ pub record Holds (p : List ℕ) (pos : Position) (over : Bool) (ph : Phase) (fs 
   pub read-is : ph .columns ≡ read ++ ph .cells
   pub over-is : pos .over ≡ over
 
-module _ {p : List ℕ} {pos : Position} {over : Bool} {ph : Phase} {fs : List Field} (h : Holds p pos over ph fs) where
+module _ {p : Source} {pos : Position} {at : ℕ} {over : Bool} {ph : Phase} {fs : List Field} (h : Holds p pos at over ph fs) where
   pub cells≤ : length (h .read) + length (ph .cells) ≡ length (ph .columns)
   cells≤ = sym (ap length (h .read-is) ∙ length-append (h .read) (ph .cells))
 
@@ -90,14 +90,12 @@ module _ {p : List ℕ} {pos : Position} {over : Bool} {ph : Phase} {fs : List F
       )
       (held-ok n (omega arith))
 
-  pub stands-ok : stands p pos ≡ true
+  pub stands-ok : stands pos ≡ true
   unfolding stands
   stands-ok =
       let n : pos .count - pos .«columns_left» ≡ length (ph .columns) = omega arith in
       rw (
         n,
-        le-leb 8 (pos .place) (h .body),
-        le-leb (pos .place) (length p) (h .here .inside),
         le-leb (pos .count) 128 (h .count≤),
         le-leb (pos .«columns_left») (pos .count) (omega arith),
         le-leb (pos .«cells_left») (pos .count) (omega (arith, cells≤)),
@@ -105,8 +103,8 @@ module _ {p : List ℕ} {pos : Position} {over : Bool} {ph : Phase} {fs : List F
       (held-ok (length (ph .columns)) (omega arith))
 
 -- the column whose cell is next, as the position has it
-module _ {p : List ℕ} {pos : Position} {over : Bool} {cs cells : List ColumnType} {c : ColumnType} {fs : List Field}
-    (h : Holds p pos over (record { columns = cs; coming = 0; cells = c ∷ cells }) fs) where
+module _ {p : Source} {pos : Position} {at : ℕ} {over : Bool} {cs cells : List ColumnType} {c : ColumnType} {fs : List Field}
+    (h : Holds p pos at over (record { columns = cs; coming = 0; cells = c ∷ cells }) fs) where
   pub next-index : pos .count - pos .«cells_left» ≡ length (h .read)
   next-index = omega (arith, cells≤ h)
 

@@ -12,4 +12,5 @@ pub mod CodeTokens
 pub mod CodePositions
 pub mod CodeSteps
 pub mod CodeSpots
-pub mod Alike
+pub mod Agree
+pub mod Twins

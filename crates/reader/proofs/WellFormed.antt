@@ -2,14 +2,13 @@
 -- the reply of such a list. Assumes nothing.
 use Prim.Native.Nat.{ℕ, suc, _*_, _%_, _^_, _≤_, _<_}
 use mathlib.Core.Path.{_≡_}
-use mathlib.Core.Bool.{Bool, true, false, not, _||_}
-use mathlib.Core.List.{List, [], _∷_, _++_, map}
+use mathlib.Core.Bool.{true, false, _||_}
+use mathlib.Core.List.{List, [], _∷_, _++_}
 use lib.Dec.{eqb}
 use lib.ListN.{length}
 use Rattle.packet.specs.Status.{hasBit}
-use Rattle.packet.specs.Reply.{packetOf}
 use Rattle.token.specs.Types.{collationSize}
-use Rattle.token.specs.Tokens.{Token, metadata, column, row, cell, done, message, EncodedCell, integer, noInteger, bounded, long, noLong, nameCount, joined, tokenBytes}
+use Rattle.token.specs.Tokens.{Token, metadata, column, row, cell, done, message, EncodedCell, integer, noInteger, bounded, long, noLong, nameCount}
 use Rattle.wire.specs.Even.{even}
 use Rattle.cells.specs.Cells.{isType}
 use Rattle.cells.proofs.Chunks.{ChunksOk}
@@ -92,7 +91,3 @@ pub data WF : Phase → List (Token EncodedCell) → Type 0 where
 -- the lists of tokens that a reply can have
 abbrev pub WellFormed : List (Token EncodedCell) → Type 0
 WellFormed ts = WF (between []) ts
-
--- the packet of some tokens: their bytes, one after another
-unfoldable pub tokensPacket : List (Token EncodedCell) → List ℕ
-tokensPacket ts = packetOf (joined (map tokenBytes ts))

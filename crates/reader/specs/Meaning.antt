@@ -10,15 +10,15 @@ use Rattle.reader.specs.declared.Token.the-variants as read
 use Rattle.reader.specs.declared.Answer.{Answer}
 use Rattle.reader.specs.declared.Answer.the-variants as answer
 
--- what a token of a packet states
+-- what a token states, whose parts are those of a payload
 abbrev pub tokenMeaning : List ℕ → Token → sent.Token sent.Value
-tokenMeaning packet (read.ColMetadata n) = sent.metadata n
-tokenMeaning packet (read.Column user flags code limit collation name) = sent.column user flags code limit (partBytes packet collation) (partBytes packet name)
-tokenMeaning packet read.Row = sent.row
-tokenMeaning packet (read.Cell v) = sent.cell (valueMeaning packet v)
-tokenMeaning packet (read.Done status command count) = sent.done status command count
-tokenMeaning packet (read.Message kind n state class text server procedure line) =
-    sent.message kind n state class (partBytes packet text) (partBytes packet server) (partBytes packet procedure) line
+tokenMeaning payload (read.ColMetadata n) = sent.metadata n
+tokenMeaning payload (read.Column user flags code limit collation name) = sent.column user flags code limit (partBytes payload collation) (partBytes payload name)
+tokenMeaning payload read.Row = sent.row
+tokenMeaning payload (read.Cell v) = sent.cell (valueMeaning payload v)
+tokenMeaning payload (read.Done status command count) = sent.done status command count
+tokenMeaning payload (read.Message kind n state class text server procedure line) =
+    sent.message kind n state class (partBytes payload text) (partBytes payload server) (partBytes payload procedure) line
 
 -- what an answer means: a token, the end, or a refusal
 pub data Meaning : Type 0 where
@@ -27,9 +27,9 @@ pub data Meaning : Type 0 where
   refusal : ℕ → Meaning
 
 abbrev pub meaningOf : List ℕ → Answer → Meaning
-meaningOf packet (answer.Token t) = token (tokenMeaning packet t)
-meaningOf packet answer.End = ended
-meaningOf packet (answer.Refused n) = refusal n
+meaningOf payload (answer.Token t) = token (tokenMeaning payload t)
+meaningOf payload answer.End = ended
+meaningOf payload (answer.Refused n) = refusal n
 
 -- the k-th of some tokens, from 0, and the end from then on
 abbrev pub kth : List (sent.Token sent.Value) → ℕ → Meaning

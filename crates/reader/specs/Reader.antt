@@ -1,23 +1,21 @@
--- The reader's step and a run of steps (document 01, 'The reply reader'). Rests on ReadTokens, Positions and packet's header.
+-- The reader's step and a run of steps (document 01, 'The reply reader'; document 02, 2026-02). Rests on ReadTokens, Positions and
+-- payload's packets.
 use Prim.Native.Nat.{ℕ, zero, suc, _-_}
-use mathlib.Core.Bool.{Bool, cond, _&&_}
+use mathlib.Core.Bool.{cond}
 use mathlib.Core.List.{List}
 use lib.Dec.{eqb, ltb}
 use lib.ListN.{length, getD}
-use Rattle.refusals.specs.Numbers.{cutShort, innerWrong, notReply}
-use Rattle.packet.specs.declared.PacketHeader.{PacketHeader}
-use Rattle.packet.specs.declared.Parsed.{Parsed}
-use Rattle.packet.specs.declared.Parsed.the-variants as parsed
-use Rattle.packet.specs.Types.{byteOf}
-use Rattle.packet.specs.Status.{hasBit}
-use Rattle.packet.specs.Header.{parsedOf}
+use Rattle.refusals.specs.Numbers.{cutShort, innerWrong}
 use Rattle.reader.specs.declared.Answer.{Answer}
 use Rattle.reader.specs.declared.Answer.the-variants as answer
 use Rattle.reader.specs.declared.Position.{Position}
 use Rattle.reader.specs.declared.Step.{Step}
 use Rattle.reader.specs.declared.Token.{Token}
 use Rattle.reader.specs.declared.Token.the-variants.{Cell}
-use Rattle.payload.specs.Places.{Read, whole, refused, then, atEnd}
+use Rattle.payload.specs.Places.{Source, Place, Read, whole, refused, then}
+use Rattle.payload.specs.Packets.{Packets, packetsIn, sourceOf}
+use Rattle.payload.specs.Positions as positions
+use Rattle.payload.specs.Positions.{Placed, placeIn, cornerOf}
 use Rattle.cells.specs.Cells.{cellAt}
 use Rattle.reader.specs.ReadTokens.{columnAt, tokenAt}
 use Rattle.reader.specs.Positions.{stands, after}
@@ -26,52 +24,52 @@ use Rattle.reader.specs.Positions.{stands, after}
 abbrev pub refusedAt : Position → ℕ → Step
 refusedAt pos n = record { answer = answer.Refused n; next = pos }
 
--- what was read, as a step
-abbrev pub settled : Position → Read Token → Step
-settled pos (whole token at) = record { answer = answer.Token token; next = after pos token at }
-settled pos (refused n) = refusedAt pos n
+-- what was read of some packets, as a step
+abbrev pub settled : Packets → Position → Read Token → Step
+settled ps pos (whole token at) = record { answer = answer.Token token; next = after pos token (cornerOf ps at) }
+settled ps pos (refused n) = refusedAt pos n
 
 -- the next cell of the current row, of its column's type
-unfoldable pub rowCellAt : List ℕ → Position → Read Token
-rowCellAt packet pos =
+unfoldable pub rowCellAt : Source → Place → Position → Read Token
+rowCellAt src at pos =
     let i = pos .count - pos .«cells_left» in
-    then (cellAt (getD (pos .types) i 0) (getD (pos .limits) i 0) packet (pos .place)) λ v at. whole (Cell v) at
+    then (cellAt (getD (pos .types) i 0) (getD (pos .limits) i 0) src at) λ v to. whole (Cell v) to
 
--- the token at a position: a column or a cell that is to be read, else one by its first byte
-unfoldable pub nextAt : List ℕ → Position → Read Token
-nextAt packet pos =
-    cond (ltb 0 (pos .«columns_left»)) (columnAt packet (pos .place))
-    (cond (ltb 0 (pos .«cells_left»)) (rowCellAt packet pos)
-    (tokenAt (pos .count) packet (pos .place)))
+-- the token at a place: a column or a cell that is to be read, else one by its first byte
+unfoldable pub nextAt : Source → Place → Position → Read Token
+nextAt src at pos =
+    cond (ltb 0 (pos .«columns_left»)) (columnAt src at)
+    (cond (ltb 0 (pos .«cells_left»)) (rowCellAt src at pos)
+    (tokenAt (pos .count) src at))
 
--- after the last DONE the packet must end: bytes left are 26; at the end the same position comes back
-abbrev pub endAt : List ℕ → Position → Step
-endAt packet pos = record { answer = cond (atEnd packet (pos .place)) answer.End (answer.Refused innerWrong); next = pos }
+-- after the last DONE the payload must end: bytes left are 26, and a refusal of reading on is given. That of packets that end as they
+-- should is 24, and is the end
+abbrev pub ending : Source → Place → Answer
+ending src at = cond (ltb at (length (src .bytes))) (answer.Refused innerWrong) (cond (eqb (src .stop) cutShort) answer.End (answer.Refused (src .stop)))
 
--- a packet of n bytes that is a reply: of type 04, ended, and of the length that its header says
-unfoldable pub isReply : PacketHeader → ℕ → Bool
-isReply h n = eqb (byteOf (h .«packet_type»)) 0x04 && hasBit 0x01 (h .status .0) && eqb (h .length) n
+-- at the end the same position comes back
+abbrev pub endAt : Source → Place → Position → Step
+endAt src at pos = record { answer = ending src at; next = pos }
 
--- after a packet's header: 8 or 9 where it is none, 23 where the packet is no reply
-abbrev pub afterHeader : Parsed → ℕ → Position → Step → Step
-afterHeader (parsed.Refused r) n pos step = refusedAt pos r
-afterHeader (parsed.Header h) n pos step = cond (isReply h n) step (refusedAt pos notReply)
+-- a step from a payload place: 24 for a position that is refused, then the end or the next token
+abbrev pub stepFrom : Packets → Position → Placed → Step
+stepFrom ps pos (positions.refused n) = refusedAt pos n
+stepFrom ps pos (positions.at n) =
+    cond (stands pos)
+    (cond (pos .over) (endAt (sourceOf ps) n pos) (settled ps pos (nextAt (sourceOf ps) n pos)))
+    (refusedAt pos cutShort)
 
--- a step: the refusals of the header, then 24 for a position that is refused, then the end or the next token
+-- a step over lent packets: the refusals of the headers up to the position's packet, then of the position
 unfoldable pub stepOf : List ℕ → Position → Step
-stepOf packet pos =
-    afterHeader (parsedOf packet) (length packet) pos
-    (cond (stands packet pos)
-    (cond (pos .over) (endAt packet pos) (settled pos (nextAt packet pos)))
-    (refusedAt pos cutShort))
+stepOf lent pos = stepFrom (packetsIn lent) pos (placeIn (packetsIn lent) (pos .packet) (pos .place))
 
 -- ---- a run: each step gets the position that the last one handed back
 
 -- the position after n steps
 unfoldable pub runOf : ℕ → List ℕ → Position → Position
-runOf zero packet pos = pos
-runOf (suc n) packet pos = runOf n packet (stepOf packet pos .next)
+runOf zero lent pos = pos
+runOf (suc n) lent pos = runOf n lent (stepOf lent pos .next)
 
 -- the n-th answer of a run, from 0
 unfoldable pub answerOf : ℕ → List ℕ → Position → Answer
-answerOf n packet pos = stepOf packet (runOf n packet pos) .answer
+answerOf n lent pos = stepOf lent (runOf n lent pos) .answer

@@ -1,31 +1,29 @@
-// The reply reader (document 01, 'The reply reader'): a position by value, and a step that hands back a token, the end or a
-// refusal with the next position.
+// The reply reader (document 01, 'The reply reader'; document 02, 2026-02): a position by value, and a step over packets that
+// hands back a token, the end or a refusal with the next position.
 mod token_reader;
 
 use cells::CellRead;
 use cells::Value;
-use packet::PacketHeader;
-use packet::PacketStatus;
-use packet::PacketType;
-use packet::Parsed;
+use payload::frames;
+use payload::frames::Frame;
+use payload::frames::Reached;
+use payload::frames::Spotted;
 use payload::minus;
 use refusals::CUT;
 use refusals::INNER_WRONG;
-use refusals::NOT_A_REPLY;
 use token_reader::TokenRead;
 use wire::Part;
 ghost use mathlib.Core.Path.{_≡_};
-ghost use mathlib.Core.Bool.{true, cond};
+ghost use mathlib.Core.Bool.{true};
 ghost use Prim.Native.Nat.{_≤_};
-ghost use Rattle.refusals.specs.Numbers.{innerWrong};
+ghost use lib.ListN.{length};
 ghost use Rattle.packet.specs.Status.{hasBit};
-ghost use Rattle.reader.specs.declared.Got.the-variants as got;
-ghost use Rattle.payload.specs.Places.{atEnd};
+ghost use Rattle.payload.specs.Frames.{sourceFrom, frameAt};
 ghost use Rattle.cells.specs.Cells.{cellAt};
-ghost use Rattle.reader.specs.Positions.{freshPosition, held, stands};
-ghost use Rattle.reader.specs.Reader.{nextAt, isReply, stepOf};
+ghost use Rattle.reader.specs.Positions.{freshPosition, held};
+ghost use Rattle.reader.specs.Reader.{ending, stepOf};
 ghost use Rattle.reader.specs.Code.{tokenRead};
-ghost use Rattle.reader.specs.Spots.{holding, spotAfter, stepBy, cellToken};
+ghost use Rattle.reader.specs.Spots.{holding, heldIn, spotAfter, standsBy, nextBy, gotIn, gotEnd, gotOf, cellToken};
 
 // The most columns that a position holds.
 pub const MAX_COLUMNS: usize = 128;
@@ -64,9 +62,11 @@ pub enum Token {
     },
 }
 
-// Where a reader stands: the place of the next byte; how many columns the current set has, with the type and the length
-// of each that was read; how many columns and how many cells are still to be read; whether the last DONE was read.
+// Where a reader stands: the packet, counted from 1, and the place in it of the next byte, counted from the packet's first;
+// how many columns the current set has, with the type and the length of each that was read; how many columns and how many cells
+// are still to be read; whether the last DONE was read.
 pub struct Position {
+    pub packet: usize,
     pub place: usize,
     pub count: usize,
     pub types: [u8; 128],
@@ -88,11 +88,12 @@ pub struct Step {
 }
 
 impl Position {
-    // Just past the header, with no column types held.
+    // Just past the first packet's header, with no column types held.
     pub fn fresh() -> Self
         ensures { λ r. ⌜ r ≡ freshPosition ⌝ }
     {
         Position {
+            packet: 1,
             place: packet::PACKET_HEADER_SIZE,
             count: 0,
             types: [0; 128],
@@ -105,10 +106,11 @@ impl Position {
 
     // The next token, the end, or a refusal. A refusal and the end hand back the same position.
     // The types are copied once, to locals, and lent from there: a position that is handed on by value is copied each time.
-    pub fn step(self, packet: &[u8]) -> Step
-        ensures { λ r. ⌜ r ≡ stepOf (now (packet .entry)) self ⌝ }
+    pub fn step(self, packets: &[u8]) -> Step
+        ensures { λ r. ⌜ r ≡ stepOf (now (packets .entry)) self ⌝ }
     {
         let at = Spot {
+            packet: self.packet,
             place: self.place,
             count: self.count,
             columns_left: self.columns_left,
@@ -117,7 +119,7 @@ impl Position {
         };
         let mut types = self.types;
         let mut limits = self.limits;
-        match got_at(packet, at, &types, &limits) {
+        match got_at(packets, at, held_in(at, &types, &limits)) {
             Got::Refused(n) => Step {
                 answer: Answer::Refused(n),
                 next: self,
@@ -126,8 +128,8 @@ impl Position {
                 answer: Answer::End,
                 next: self,
             },
-            Got::Token(token, place) => {
-                let next = spot_after(at, token, place);
+            Got::Token(token, packet, place) => {
+                let next = spot_after(at, token, packet, place);
                 if let Token::Column { code, limit, .. } = token {
                     let i = minus(at.count, at.columns_left);
                     if i < MAX_COLUMNS {
@@ -138,6 +140,7 @@ impl Position {
                 Step {
                     answer: Answer::Token(token),
                     next: Position {
+                        packet: next.packet,
                         place: next.place,
                         count: next.count,
                         types,
@@ -153,65 +156,91 @@ impl Position {
 }
 
 // A position without the types that it holds.
-struct Spot {
-    place: usize,
-    count: usize,
-    columns_left: usize,
-    cells_left: usize,
-    over: bool,
+pub struct Spot {
+    pub packet: usize,
+    pub place: usize,
+    pub count: usize,
+    pub columns_left: usize,
+    pub cells_left: usize,
+    pub over: bool,
 }
 
-// What a step comes to: a token with the place after it, the end, or a refusal.
-enum Got {
-    Token(Token, usize),
+// What a step asks of the types that a position holds: whether all of them are column types, and the type and the length of
+// the column whose cell is next, 0 where it has none.
+pub struct HeldTypes {
+    pub sound: bool,
+    pub code: u8,
+    pub limit: u16,
+}
+
+// What a step comes to: a token with the packet and the place after it, the end, or a refusal.
+pub enum Got {
+    Token(Token, usize, usize),
     End,
     Refused(u8),
 }
 
-fn got_at<'a>(packet: &[u8], at: Spot, types: &'a [u8; 128], limits: &'a [u16; 128]) -> Got
-    ensures { λ r. ⌜ stepBy (holding at (now (types .entry)) (now (limits .entry))) r ≡ stepOf (now (packet .entry)) (holding at (now (types .entry)) (now (limits .entry))) ⌝ }
+// What a step comes to from a spot. Whoever keeps the types in a form of its own asks for no `Position`, and copies none.
+pub fn got_at(packets: &[u8], at: Spot, held: HeldTypes) -> Got
+    ensures { λ r. ⌜ r ≡ gotOf (now (packets .entry)) at held ⌝ }
 {
-    match PacketHeader::parse(packet) {
-        Parsed::Refused(n) => Got::Refused(n),
-        Parsed::Header(header) => {
-            if !is_reply(header, packet.len()) {
-                return Got::Refused(NOT_A_REPLY);
-            }
-            if !stands(packet, at, types, limits) {
+    match frames::resolve(packets, at.packet, at.place) {
+        Spotted::Refused(n) => Got::Refused(n),
+        Spotted::At(frame, place) => {
+            if !stands(at, held.sound) {
                 return Got::Refused(CUT);
             }
             if at.over {
-                return end_at(packet, at.place);
+                return end_at(packets, frame, place);
             }
-            match next_at(packet, at, types, limits) {
+            match next_at(packets, frame, place, at, held) {
                 TokenRead::Refused(n) => Got::Refused(n),
-                TokenRead::Whole(token, next) => Got::Token(token, next),
+                TokenRead::Whole(token, next) => got_to(packets, frame, token, next),
             }
         },
     }
 }
 
-// After the last DONE, where the packet must end.
-fn end_at(packet: &[u8], place: usize) -> Got
-    ensures { λ r. ⌜ r ≡ cond (atEnd (now (packet .entry)) place) got.End (got.Refused innerWrong) ⌝ }
+// A token after which the reader stands at a payload place: its packet is found from the frame that the token was read from.
+fn got_to(packets: &[u8], frame: Frame, token: Token, next: usize) -> Got
+    requires { ⌜ next ≤ length (now packets) ⌝ }
+    ensures { λ r. ⌜ r ≡ gotIn (frameAt (now (packets .entry)) frame next) token next ⌝ }
 {
-    if place != packet.len() {
-        return Got::Refused(INNER_WRONG);
+    if next <= frame.end {
+        return Got::Token(
+            token,
+            frame.number,
+            packet::PACKET_HEADER_SIZE + minus(next, frame.base),
+        );
     }
-    Got::End
+    let here = frames::frame_at(packets, frame, next);
+    Got::Token(
+        token,
+        here.number,
+        packet::PACKET_HEADER_SIZE + minus(next, here.base),
+    )
 }
 
-// Whether a step can go on from a position. It cannot, and answers 24, where the place is in the header or past the end,
-// where over 128 columns or a type that is none are held, and where it stands past its columns or cells.
-fn stands<'a>(packet: &[u8], at: Spot, types: &'a [u8; 128], limits: &'a [u16; 128]) -> bool
-    ensures { λ r. ⌜ r ≡ stands (now (packet .entry)) (holding at (now (types .entry)) (now (limits .entry))) ⌝ }
+// After the last DONE, where the packets must end.
+fn end_at(packets: &[u8], frame: Frame, place: usize) -> Got
+    ensures { λ r. ⌜ r ≡ gotEnd (ending (sourceFrom (now (packets .entry)) frame) place) ⌝ }
 {
-    if at.place < packet::PACKET_HEADER_SIZE {
-        return false;
+    match frames::reach(packets, frame, place, 1) {
+        Reached::In(_) => Got::Refused(INNER_WRONG),
+        Reached::Past(n) => {
+            if n == CUT {
+                return Got::End;
+            }
+            Got::Refused(n)
+        },
     }
-    if packet.len() < at.place {
-        return false;
-    }
+}
+
+// Whether a step can go on from a spot, where the types held are sound. It cannot, and answers 24, where over 128 columns or a type
+// that is none are held, and where it stands past its columns or cells.
+fn stands(at: Spot, sound: bool) -> bool
+    ensures { λ r. ⌜ r ≡ standsBy at sound ⌝ }
+{
     if MAX_COLUMNS < at.count {
         return false;
     }
@@ -221,14 +250,38 @@ fn stands<'a>(packet: &[u8], at: Spot, types: &'a [u8; 128], limits: &'a [u16; 1
     if at.count < at.cells_left {
         return false;
     }
-    are_types(types, limits, at.count - at.columns_left)
+    sound
 }
 
-// Whether the first n types are column types.
+// What a step asks of the types that stand in two arrays.
+fn held_in<'a>(at: Spot, types: &'a [u8; 128], limits: &'a [u16; 128]) -> HeldTypes
+    requires { ⌜ (length (now types) ≡ 128) × (length (now limits) ≡ 128) ⌝ }
+    ensures { λ r. ⌜ r ≡ heldIn (holding at (now (types .entry)) (now (limits .entry))) ⌝ }
+{
+    let sound = are_types(types, limits, minus(at.count, at.columns_left));
+    let i = minus(at.count, at.cells_left);
+    if i < MAX_COLUMNS {
+        return HeldTypes {
+            sound,
+            code: types[i],
+            limit: limits[i],
+        };
+    }
+    HeldTypes {
+        sound,
+        code: 0,
+        limit: 0,
+    }
+}
+
+// Whether the first n types are column types. Over 128 are not held.
 fn are_types<'a>(types: &'a [u8; 128], limits: &'a [u16; 128], n: usize) -> bool
-    requires { ⌜ n ≤ 128 ⌝ }
+    requires { ⌜ length (now types) ≡ 128 ⌝ }
     ensures { λ r. ⌜ r ≡ held n (now (types .entry)) (now (limits .entry)) ⌝ }
 {
+    if MAX_COLUMNS < n {
+        return false;
+    }
     let mut all = true;
     let mut i = 0;
     while i < n {
@@ -238,36 +291,36 @@ fn are_types<'a>(types: &'a [u8; 128], limits: &'a [u16; 128], n: usize) -> bool
     all
 }
 
-// The token at a position: a column or a cell that is to be read, else one by its first byte.
-fn next_at<'a>(packet: &[u8], at: Spot, types: &'a [u8; 128], limits: &'a [u16; 128]) -> TokenRead
-    requires { ⌜ stands (now packet) (holding at (now types) (now limits)) ≡ true ⌝ }
-    ensures { λ r. ⌜ r ≡ tokenRead (nextAt (now (packet .entry)) (holding at (now (types .entry)) (now (limits .entry)))) ⌝ }
+// The token at a payload place: a column or a cell that is to be read, else one by its first byte.
+fn next_at(packets: &[u8], frame: Frame, place: usize, at: Spot, held: HeldTypes) -> TokenRead
+    ensures { λ r. ⌜ r ≡ tokenRead (nextBy (sourceFrom (now (packets .entry)) frame) place at held) ⌝ }
 {
     if 0 < at.columns_left {
-        return token_reader::column_at(packet, at.place);
+        return token_reader::column_at(packets, frame, place);
     }
     if 0 < at.cells_left {
-        let i = at.count - at.cells_left;
-        return row_cell_at(packet, at.place, types[i], limits[i]);
+        return row_cell_at(packets, frame, place, held.code, held.limit);
     }
-    token_reader::token_at(packet, at.place, at.count)
+    token_reader::token_at(packets, frame, place, at.count)
 }
 
 // The next cell of the current row, of its column's type.
-fn row_cell_at(packet: &[u8], place: usize, code: u8, limit: u16) -> TokenRead
-    ensures { λ r. ⌜ r ≡ tokenRead (cellToken (cellAt code limit (now (packet .entry)) place)) ⌝ }
+fn row_cell_at(packets: &[u8], frame: Frame, place: usize, code: u8, limit: u16) -> TokenRead
+    ensures { λ r. ⌜ r ≡ tokenRead (cellToken (cellAt code limit (sourceFrom (now (packets .entry)) frame) place)) ⌝ }
 {
-    match cells::cell_at(packet, place, code, limit) {
+    match cells::cell_at(packets, frame, place, code, limit) {
         CellRead::Refused(n) => TokenRead::Refused(n),
         CellRead::Whole(value, next) => TokenRead::Whole(Token::Cell(value), next),
     }
 }
 
-// The position after a token: COLMETADATA begins a set and any DONE ends it, the last one ends the reply.
-fn spot_after(at: Spot, token: Token, place: usize) -> Spot
-    ensures { λ r. ⌜ r ≡ spotAfter at token place ⌝ }
+// The spot after a token, in a packet and at a place of it: COLMETADATA begins a set and any DONE ends it, the last one ends
+// the reply.
+pub fn spot_after(at: Spot, token: Token, packet: usize, place: usize) -> Spot
+    ensures { λ r. ⌜ r ≡ spotAfter at token packet place ⌝ }
 {
     let mut next = at;
+    next.packet = packet;
     next.place = place;
     match token {
         Token::ColMetadata(n) => {
@@ -297,15 +350,4 @@ fn has_more(status: u16) -> bool
     ensures { λ r. ⌜ r ≡ hasBit 0x01 status ⌝ }
 {
     status % 2 == MORE
-}
-
-// A packet of some length that is a reply: of type 04, ended, and of the length that its header says.
-fn is_reply(header: PacketHeader, length: usize) -> bool
-    ensures { λ r. ⌜ r ≡ isReply header length ⌝ }
-{
-    let packet_type = header.packet_type;
-    let status = header.status;
-    (packet_type.byte() == PacketType::TabularResult.byte())
-        & PacketStatus::is_end_of_message(status)
-        & (header.length as usize == length)
 }

@@ -10,6 +10,7 @@ ghost use Prim.Native.Nat.{_-_, _*_, _≤_};
 ghost use lib.Dec.{leb};
 ghost use Rattle.wire.specs.Even.{even};
 ghost use Rattle.payload.specs.Places.{whole, numberAt};
+ghost use Rattle.payload.specs.Frames.{sourceFrom};
 ghost use Rattle.payload.specs.Answers.{numberRead, partRead, Below};
 ghost use Rattle.reader.specs.ReadTokens.{columnAt, metadataAt, rowAt, doneAt, textAt, textsAt, messageAt, tokenAt};
 ghost use Rattle.reader.specs.Code.{tokenRead, textsRead};
@@ -19,6 +20,7 @@ use cells::TypeRead;
 use cells::type_at;
 use payload::NumberRead;
 use payload::PartRead;
+use payload::frames::Frame;
 use payload::minus;
 use payload::part_at;
 use payload::u8_at;
@@ -34,26 +36,26 @@ pub(crate) enum TokenRead {
 }
 
 // A column of COLMETADATA: user type, flags, type, and the name after its count of units.
-pub(crate) fn column_at(packet: &[u8], at: usize) -> TokenRead
-    ensures { λ r. ⌜ r ≡ tokenRead (columnAt (now (packet .entry)) at) ⌝ }
+pub(crate) fn column_at(lent: &[u8], frame: Frame, at: usize) -> TokenRead
+    ensures { λ r. ⌜ r ≡ tokenRead (columnAt (sourceFrom (now (lent .entry)) frame) at) ⌝ }
 {
-    let user_type = match u32_at(packet, at) {
+    let user_type = match u32_at(lent, frame, at) {
         NumberRead::Refused(n) => return TokenRead::Refused(n),
         NumberRead::Whole(n) => n,
     };
-    let flags = match u16_at(packet, user_type.next) {
+    let flags = match u16_at(lent, frame, user_type.next) {
         NumberRead::Refused(n) => return TokenRead::Refused(n),
         NumberRead::Whole(n) => n,
     };
-    let read = match type_at(packet, flags.next) {
+    let read = match type_at(lent, frame, flags.next) {
         TypeRead::Refused(n) => return TokenRead::Refused(n),
         TypeRead::Whole(t) => t,
     };
-    let units = match u8_at(packet, read.next) {
+    let units = match u8_at(lent, frame, read.next) {
         NumberRead::Refused(n) => return TokenRead::Refused(n),
         NumberRead::Whole(n) => n,
     };
-    match part_at(packet, units.next, 2 * (units.value as usize)) {
+    match part_at(lent, frame, units.next, 2 * (units.value as usize)) {
         PartRead::Refused(n) => TokenRead::Refused(n),
         PartRead::Whole(text) => {
             let info = read.info;
@@ -75,29 +77,29 @@ pub(crate) fn column_at(packet: &[u8], at: usize) -> TokenRead
 }
 
 // A token by its first byte, in a set of some number of columns.
-pub(crate) fn token_at(packet: &[u8], at: usize, columns: usize) -> TokenRead
-    ensures { λ r. ⌜ r ≡ tokenRead (tokenAt columns (now (packet .entry)) at) ⌝ }
+pub(crate) fn token_at(lent: &[u8], frame: Frame, at: usize, columns: usize) -> TokenRead
+    ensures { λ r. ⌜ r ≡ tokenRead (tokenAt columns (sourceFrom (now (lent .entry)) frame) at) ⌝ }
 {
-    let first = match u8_at(packet, at) {
+    let first = match u8_at(lent, frame, at) {
         NumberRead::Refused(n) => return TokenRead::Refused(n),
         NumberRead::Whole(n) => n,
     };
     let next = first.next;
     let code = first.value as u8;
     match code {
-        token::COLMETADATA => metadata_at(packet, next),
+        token::COLMETADATA => metadata_at(lent, frame, next),
         token::ROW => row_at(columns, next),
-        token::DONE => done_at(packet, next),
-        token::ERROR | token::INFO => message_at(packet, next, code),
+        token::DONE => done_at(lent, frame, next),
+        token::ERROR | token::INFO => message_at(lent, frame, next, code),
         _ => TokenRead::Refused(UNKNOWN_TOKEN),
     }
 }
 
 // COLMETADATA after its first byte: the count of columns.
-fn metadata_at(packet: &[u8], at: usize) -> TokenRead
-    ensures { λ r. ⌜ r ≡ tokenRead (metadataAt (now (packet .entry)) at) ⌝ }
+fn metadata_at(lent: &[u8], frame: Frame, at: usize) -> TokenRead
+    ensures { λ r. ⌜ r ≡ tokenRead (metadataAt (sourceFrom (now (lent .entry)) frame) at) ⌝ }
 {
-    let count = match u16_at(packet, at) {
+    let count = match u16_at(lent, frame, at) {
         NumberRead::Refused(n) => return TokenRead::Refused(n),
         NumberRead::Whole(n) => n,
     };
@@ -118,18 +120,18 @@ fn row_at(columns: usize, at: usize) -> TokenRead
 }
 
 // DONE after its first byte: status, command, row count.
-fn done_at(packet: &[u8], at: usize) -> TokenRead
-    ensures { λ r. ⌜ r ≡ tokenRead (doneAt (now (packet .entry)) at) ⌝ }
+fn done_at(lent: &[u8], frame: Frame, at: usize) -> TokenRead
+    ensures { λ r. ⌜ r ≡ tokenRead (doneAt (sourceFrom (now (lent .entry)) frame) at) ⌝ }
 {
-    let status = match u16_at(packet, at) {
+    let status = match u16_at(lent, frame, at) {
         NumberRead::Refused(n) => return TokenRead::Refused(n),
         NumberRead::Whole(n) => n,
     };
-    let command = match u16_at(packet, status.next) {
+    let command = match u16_at(lent, frame, status.next) {
         NumberRead::Refused(n) => return TokenRead::Refused(n),
         NumberRead::Whole(n) => n,
     };
-    match u64_at(packet, command.next) {
+    match u64_at(lent, frame, command.next) {
         NumberRead::Refused(n) => TokenRead::Refused(n),
         NumberRead::Whole(count) => TokenRead::Whole(
             Token::Done {
@@ -146,10 +148,10 @@ fn done_at(packet: &[u8], at: usize) -> TokenRead
 const MESSAGE_FIXED: usize = 14;
 
 // ERROR or INFO after its first byte: length, number, state, class, the texts, line.
-fn message_at(packet: &[u8], at: usize, kind: u8) -> TokenRead
-    ensures { λ r. ⌜ r ≡ tokenRead (messageAt kind (now (packet .entry)) at) ⌝ }
+fn message_at(lent: &[u8], frame: Frame, at: usize, kind: u8) -> TokenRead
+    ensures { λ r. ⌜ r ≡ tokenRead (messageAt kind (sourceFrom (now (lent .entry)) frame) at) ⌝ }
 {
-    let size = match u16_at(packet, at) {
+    let size = match u16_at(lent, frame, at) {
         NumberRead::Refused(n) => return TokenRead::Refused(n),
         NumberRead::Whole(n) => n,
     };
@@ -157,19 +159,19 @@ fn message_at(packet: &[u8], at: usize, kind: u8) -> TokenRead
     if !is_message_length(length) {
         return TokenRead::Refused(INNER_WRONG);
     }
-    let number = match u32_at(packet, size.next) {
+    let number = match u32_at(lent, frame, size.next) {
         NumberRead::Refused(n) => return TokenRead::Refused(n),
         NumberRead::Whole(n) => n,
     };
-    let state = match u8_at(packet, number.next) {
+    let state = match u8_at(lent, frame, number.next) {
         NumberRead::Refused(n) => return TokenRead::Refused(n),
         NumberRead::Whole(n) => n,
     };
-    let class = match u8_at(packet, state.next) {
+    let class = match u8_at(lent, frame, state.next) {
         NumberRead::Refused(n) => return TokenRead::Refused(n),
         NumberRead::Whole(n) => n,
     };
-    match texts_at(packet, class.next, length - MESSAGE_FIXED) {
+    match texts_at(lent, frame, class.next, length - MESSAGE_FIXED) {
         TextsRead::Refused(n) => TokenRead::Refused(n),
         TextsRead::Whole(texts, next) => {
             let text = texts.text;
@@ -217,26 +219,26 @@ const TWO_NAMES: usize = 1020;
 const ONE_NAME: usize = 510;
 
 // The texts of a message, which have room bytes together, and the line.
-fn texts_at(packet: &[u8], at: usize, room: usize) -> TextsRead
-    ensures { λ r. ⌜ r ≡ textsRead (textsAt room (now (packet .entry)) at) ⌝ }
+fn texts_at(lent: &[u8], frame: Frame, at: usize, room: usize) -> TextsRead
+    ensures { λ r. ⌜ r ≡ textsRead (textsAt room (sourceFrom (now (lent .entry)) frame) at) ⌝ }
 {
-    let message = match text_at(packet, at, 2, room, TWO_NAMES) {
+    let message = match text_at(lent, frame, at, 2, room, TWO_NAMES) {
         PartRead::Refused(n) => return TextsRead::Refused(n),
         PartRead::Whole(t) => t,
     };
     let text = message.part;
     let room = minus(room, text.len);
-    let name = match text_at(packet, message.next, 1, room, ONE_NAME) {
+    let name = match text_at(lent, frame, message.next, 1, room, ONE_NAME) {
         PartRead::Refused(n) => return TextsRead::Refused(n),
         PartRead::Whole(t) => t,
     };
     let server = name.part;
-    let last = match text_at(packet, name.next, 1, minus(room, server.len), 0) {
+    let last = match text_at(lent, frame, name.next, 1, minus(room, server.len), 0) {
         PartRead::Refused(n) => return TextsRead::Refused(n),
         PartRead::Whole(t) => t,
     };
     let procedure = last.part;
-    match u32_at(packet, last.next) {
+    match u32_at(lent, frame, last.next) {
         NumberRead::Refused(n) => TextsRead::Refused(n),
         NumberRead::Whole(line) => TextsRead::Whole(
             Texts {
@@ -251,11 +253,11 @@ fn texts_at(packet: &[u8], at: usize, room: usize) -> TextsRead
 }
 
 // A text after its count of units in k bytes, where room bytes are left for it and for texts that have at most most bytes.
-fn text_at(packet: &[u8], at: usize, k: usize, room: usize, most: usize) -> PartRead
+fn text_at(lent: &[u8], frame: Frame, at: usize, k: usize, room: usize, most: usize) -> PartRead
     requires { ⌜ (1 ≤ k) × (k ≤ 2) ⌝ }
-    ensures { λ r. ⌜ r ≡ partRead (textAt k room most (now (packet .entry)) at) ⌝ }
+    ensures { λ r. ⌜ r ≡ partRead (textAt k room most (sourceFrom (now (lent .entry)) frame) at) ⌝ }
 {
-    let units = match units_at(packet, at, k) {
+    let units = match units_at(lent, frame, at, k) {
         NumberRead::Refused(n) => return PartRead::Refused(n),
         NumberRead::Whole(n) => n,
     };
@@ -263,18 +265,18 @@ fn text_at(packet: &[u8], at: usize, k: usize, room: usize, most: usize) -> Part
     if !leaves(len, room, most) {
         return PartRead::Refused(INNER_WRONG);
     }
-    part_at(packet, units.next, len)
+    part_at(lent, frame, units.next, len)
 }
 
 // A count of units in one byte or in two.
-fn units_at(packet: &[u8], at: usize, k: usize) -> NumberRead
+fn units_at(lent: &[u8], frame: Frame, at: usize, k: usize) -> NumberRead
     requires { ⌜ (1 ≤ k) × (k ≤ 2) ⌝ }
-    ensures { λ r. ⌜ (r ≡ numberRead (numberAt k (now (packet .entry)) at whole)) × Below 2 r ⌝ }
+    ensures { λ r. ⌜ (r ≡ numberRead (numberAt k (sourceFrom (now (lent .entry)) frame) at whole)) × Below 2 r ⌝ }
 {
     if k == 1 {
-        u8_at(packet, at)
+        u8_at(lent, frame, at)
     } else {
-        u16_at(packet, at)
+        u16_at(lent, frame, at)
     }
 }
 

@@ -88,7 +88,7 @@ resultTooLong = 17
 
 -- ---- Caller
 
--- the input of a program is over 65,536 bytes
+-- the input of a program is over 65,536 bytes, or packets to read over 131,072
 abbrev pub inputTooLong : ℕ
 inputTooLong = 18
 
@@ -104,13 +104,25 @@ oddText = 21
 abbrev pub notUtf16 : ℕ
 notUtf16 = 22
 
+-- a packet size is under 512 or over 32,767 bytes
+abbrev pub packetSize : ℕ
+packetSize = 32
+
 -- ---- Sender of a reply
 
--- a packet is not of type 04, not ended, or of another length than its header says
+-- a packet is not of type 04, or its length is under 9 or past the bytes lent
 abbrev pub notReply : ℕ
 notReply = 23
 
--- a reply is cut within a token or before the last DONE, or a position is one that document 01 refuses
+-- a packet's number is not the next
+abbrev pub notNext : ℕ
+notNext = 33
+
+-- a reply must go on past a packet's payload, and bytes follow the end bit, or none follow and there is no end bit
+abbrev pub endBitWrong : ℕ
+endBitWrong = 34
+
+-- a reply is cut within a token or before the last DONE, or a position is one that is refused
 abbrev pub cutShort : ℕ
 cutShort = 24
 

@@ -70,7 +70,7 @@ pub const RESULT_TOO_LONG: u8 = 17;
 
 // ---- Caller
 
-// The input of a program is over 65,536 bytes.
+// The input of a program is over 65,536 bytes, or packets to read over 131,072.
 pub const INPUT_TOO_LONG: u8 = 18;
 
 // A lent buffer is too short.
@@ -82,12 +82,21 @@ pub const ODD_TEXT: u8 = 21;
 // A text argument is not UTF-16.
 pub const NOT_UTF16: u8 = 22;
 
+// A packet size is under 512 or over 32,767 bytes.
+pub const PACKET_SIZE: u8 = 32;
+
 // ---- Sender of a reply
 
-// A packet is not of type 04, not ended, or of another length than its header says.
+// A packet is not of type 04, or its length is under 9 or past the bytes lent.
 pub const NOT_A_REPLY: u8 = 23;
 
-// A reply is cut within a token or before the last DONE, or a position is one that document 01 refuses.
+// A packet's number is not the next.
+pub const NOT_THE_NEXT: u8 = 33;
+
+// A reply must go on past a packet's payload, and bytes follow the end bit, or none follow and there is no end bit.
+pub const END_BIT_WRONG: u8 = 34;
+
+// A reply is cut within a token or before the last DONE, or a position is one that is refused.
 pub const CUT: u8 = 24;
 
 // A byte begins no token.

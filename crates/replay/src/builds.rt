@@ -1,5 +1,5 @@
-// The builders: `build_NAME LENT ARGUMENT..`, so many bytes of a buffer are lent. The answer is the bytes written, and
-// the rest of the buffer is kept; of a refused call all of it.
+// The builders: `build_NAME LENT ARGUMENT..`, so many bytes of a buffer are lent; and `cut_payload LENT PAYLOAD SIZE`. The
+// answer is the bytes written, and the rest of the buffer is kept; of a refused call all of it.
 use crate::calls;
 use crate::spaces;
 use crate::told;
@@ -54,6 +54,9 @@ fn build(line: &[u8], name: &[u8], buf: &mut [u8]) -> Told {
     if check::same(words::piece(name, 6, b'_'), b"query") {
         return build_result(line, name, buf);
     }
+    if check::same(name, b"cut_payload") {
+        return cut(line, buf);
+    }
     if check::same(words::piece(name, 6, b'_'), b"prelogin") {
         return build_prelogin(line, name, buf);
     }
@@ -81,6 +84,9 @@ fn build(line: &[u8], name: &[u8], buf: &mut [u8]) -> Told {
 
 // Replies to scripts, under the four names of the Rust.
 fn build_result(line: &[u8], name: &[u8], buf: &mut [u8]) -> Told {
+    if check::same(name, b"build_query_results_in_packets") {
+        return build_packets(line, buf);
+    }
     let mut space = spaces::zeros();
     let n = words::bytes_at(line, 2, &mut space);
     let script = wire::part_of(&space, calls::first(n));
@@ -97,6 +103,22 @@ fn build_result(line: &[u8], name: &[u8], buf: &mut [u8]) -> Told {
         return told_result(result::build_query_result_with_extras(script, buf));
     }
     unknown()
+}
+
+// The same in packets of a size: LENT SCRIPT SIZE.
+fn build_packets(line: &[u8], buf: &mut [u8]) -> Told {
+    let size = words::u64_at(line, 3) as usize;
+    let mut space = spaces::zeros();
+    let n = words::bytes_at(line, 2, &mut space);
+    let script = wire::part_of(&space, calls::first(n));
+    told_result(result::build_query_results_in_packets(script, size, buf))
+}
+
+fn cut(line: &[u8], buf: &mut [u8]) -> Told {
+    let size = words::u64_at(line, 3) as usize;
+    let mut space = spaces::zeros();
+    let n = words::bytes_at(line, 2, &mut space);
+    told_of(response::cut_payload(wire::part_of(&space, calls::first(n)), size, buf))
 }
 
 fn build_prelogin(line: &[u8], name: &[u8], buf: &mut [u8]) -> Told {

@@ -17,6 +17,9 @@ pub(crate) fn holds(line: &[u8]) -> bool {
     if check::same(words::piece(name, 0, b'_'), b"build") {
         return builds::holds(line, name);
     }
+    if check::same(name, b"cut_payload") {
+        return builds::holds(line, name);
+    }
     if check::same(name, b"write_header") {
         return headers::holds(line);
     }

@@ -5,16 +5,16 @@ use reader::Answer;
 use reader::Position;
 use reader::Token;
 
-// No run takes more steps: a token takes a byte or more, a reply has at most 65,535, and then come end or refusal.
-const MOST_STEPS: usize = 65536;
+// No run takes more steps: a token takes a byte or more, packets have at most 131,072, and then come end or refusal.
+const MOST_STEPS: usize = 131073;
 
 // The words of each token, then `end` or a refusal.
-pub(crate) fn tokens(packet: &[u8], out: &mut [u8]) -> usize {
+pub(crate) fn tokens(packets: &[u8], out: &mut [u8]) -> usize {
     let mut at = 0;
     let mut position = Position::fresh();
     let mut steps = MOST_STEPS;
     while steps > 0 {
-        let step = position.step(packet);
+        let step = position.step(packets);
         let got = step.answer;
         match got {
             Answer::Token(token) => {

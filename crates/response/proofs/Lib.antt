@@ -4,3 +4,4 @@ pub mod Lengths
 pub mod Measuring
 pub mod Writing
 pub mod Putting
+pub mod InPackets

@@ -4,3 +4,4 @@ pub mod Routing
 pub mod Lists
 pub mod Replies
 pub mod Inner
+pub mod Packets

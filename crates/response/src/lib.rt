@@ -1,15 +1,20 @@
 // Replies other than query results (document 01, 'Other replies'): the `build_` functions of the Rust, by their names and
-// in its order. Text arguments are UTF-16LE, lists are records; the bytes go to the front of a lent buffer.
+// in its order, and the cutting of their payloads into packets (document 02, 2026-02). Text arguments are UTF-16LE, lists are records; the bytes go to the front of a lent buffer.
 // A builder's contract is what it sends (specs/Replies.antt), as answer and as buffer (specs/Answer.antt).
 mod faults;
 mod put;
 
+use refusals::BUFFER_TOO_SHORT;
 use refusals::NONE;
+use refusals::PACKET_SIZE;
+use refusals::RESULT_TOO_LONG;
 ghost use mathlib.Core.Path.{_≡_};
 ghost use mathlib.Core.Bool.{false};
 ghost use mathlib.Core.List.{[], _∷_};
 ghost use Rattle.script.specs.Records.{records};
+ghost use lib.ListN.{length};
 ghost use Rattle.response.specs.Answer.{reply, firstOf, builtOf, bufferOf};
+ghost use Rattle.response.specs.Packets.{cutBuilt, cutBuffer};
 ghost use Rattle.text.specs.Arguments.{textFault};
 ghost use Rattle.response.specs.Lists.{routeBytes};
 ghost use Rattle.response.specs.Replies.{preloginReply, fedauthAckReply, classificationAckReply, featuresReply, routingAckReply, challengeReply, fedauthInfoReply, loginAckReply, doneReply, attentionReply, transactionReply, infoReply, errorTokensReply, errorReply, routeReply, databaseRouteReply, routingLoginReply, routingReply};
@@ -473,4 +478,26 @@ pub fn build_routing_login_response(
         ack,
         ack_before_routing,
     ))
+}
+
+// The most bytes of a reply's payload: with a header they are the most that a length field counts.
+pub const MOST_PAYLOAD: usize = 65527;
+
+// The payload of a reply, in packets of a size at the buffer's front. For a reply that is a packet, lend what follows its header;
+// bare tokens are payloads. An empty payload becomes no packet.
+pub fn cut_payload(payload: &[u8], size: usize, buf: &mut [u8]) -> Built
+    ensures { λ r. ⌜ r ≡ cutBuilt size (now (payload .entry)) (length (now (buf .entry))) ⌝ }
+    ensures { λ _. ⌜ now (buf .exit) ≡ cutBuffer size (now (payload .entry)) (now (buf .entry)) ⌝ }
+{
+    if !packet::is_packet_size(size) {
+        return Built::Refused(PACKET_SIZE);
+    }
+    if MOST_PAYLOAD < payload.len() {
+        return Built::Refused(RESULT_TOO_LONG);
+    }
+    let total = packet::packets_length(size as u16, payload.len() as u16);
+    if buf.len() < total {
+        return Built::Refused(BUFFER_TOO_SHORT);
+    }
+    Built::Written(packet::put_packets(buf, size as u16, payload))
 }

@@ -28,11 +28,11 @@ use Rattle.wire.proofs.Cases.{by-test}
 module _ (s : List ℕ) (buf : List ℕ) where
   -- a refused script
   module _ (f : ℕ) (e : measureOf s ≡ measure.Refused f) where
-    is-refused : eqb (refusalOf s) 0 ≡ false
+    pub is-refused : eqb (refusalOf s) 0 ≡ false
     unfolding measureOf
     is-refused = by-test (eqb (refusalOf s) 0) (λ t. let g = rw t at e in let z : _≡_ {A = ℕ} 0 1 = cc in absurd (omega arith)) (λ t. t)
 
-    number-is : refusalOf s ≡ f
+    pub number-is : refusalOf s ≡ f
     unfolding measureOf
     number-is = let g = rw is-refused at e in cc
 
@@ -49,11 +49,11 @@ module _ (s : List ℕ) (buf : List ℕ) where
 
   -- a script of a size
   module _ (n : ℕ) (e : measureOf s ≡ measure.Size n) where
-    is-accepted : eqb (refusalOf s) 0 ≡ true
+    pub is-accepted : eqb (refusalOf s) 0 ≡ true
     unfolding measureOf
     is-accepted = by-test (eqb (refusalOf s) 0) (λ t. t) (λ t. let g = rw t at e in let z : _≡_ {A = ℕ} 0 1 = cc in absurd (omega arith))
 
-    size-is : length (replyOf s) ≡ n
+    pub size-is : length (replyOf s) ≡ n
     unfolding measureOf
     size-is = let g = rw is-accepted at e in cc
 

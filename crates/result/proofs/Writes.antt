@@ -3,13 +3,12 @@ use mathlib.Core.Path.{_≡_, refl, sym, ap, _∙_}
 use mathlib.Core.List.{List, [], _∷_, _++_, flatMap, append-assoc, append-nil}
 use Prim.Native.Nat.{ℕ, _+_, _-_, _≤_}
 use native.Mathlib.Nat.{add-sub-cancel-left}
-use native.Mathlib.Omega.{arith}
 use lib.ListN.{length, take, drop}
-use borrow.Author.Tests.{eq-eqb, ne-eqb}
+use borrow.Author.Tests.{eq-eqb}
 use Rattle.wire.specs.Le.{le}
-use Rattle.wire.specs.Over.{Wrote, overwrite}
+use Rattle.wire.specs.Over.{Wrote}
 use Rattle.wire.specs.Fields.{word, raw, flat}
-use Rattle.wire.proofs.Over.{then, wrote-as, length-over}
+use Rattle.wire.proofs.Over.{then, wrote-as, wrote-nothing}
 use Rattle.token.specs.Tokens.{Token, metadata, cell, EncodedCell, long, joined, tokenBytes, putChunks}
 use Rattle.script.specs.declared.Found.the-variants.{Record, Cut, End}
 use Rattle.script.specs.Records.{records, recordAt}
@@ -19,31 +18,6 @@ use Rattle.emission.specs.Emission.{Piece, tokenPiece, classificationPiece, col
 use Rattle.emission.specs.Walk.{piecesOf, rowsAfter, emitFrom}
 use Rattle.emission.specs.Inner.{GoesOn}
 use Rattle.emission.proofs.Sizes.{bytes-none, bytes-told, bytes-classified, bytes-cat}
-
--- With xs still to be written at the place to of the buffer m, ys are written at the place at of the buffer l: whoever
--- writes xs there has written ys here
-abbrev pub Owes : List ℕ → ℕ → List ℕ → List ℕ → ℕ → List ℕ → Type 0
-Owes l at ys m to xs = (n : List ℕ) (end : ℕ) → Wrote m to xs n end → Wrote l at ys n end
-
--- a part of what is owed was written
-pub owes-less : (l : List ℕ) (at : ℕ) (ys m : List ℕ) (to : ℕ) (xs rest : List ℕ) {k : List ℕ} {next : ℕ} {part : List ℕ} → Owes l at ys m to xs → xs ≡ part ++ rest → Wrote m to part k next
-    → Owes l at ys k next rest
-owes-less l at ys m to xs rest f e w n end v = f n end (wrote-as (then w v) (sym e))
-
--- the last of it was
-pub owes-last : (l : List ℕ) (at : ℕ) (ys m : List ℕ) (to : ℕ) (xs : List ℕ) {k : List ℕ} {next : ℕ} {part : List ℕ} → Owes l at ys m to xs → xs ≡ part → Wrote m to part k next → Wrote l at ys k next
-owes-last l at ys m to xs f e w = f _ _ (wrote-as w (sym e))
-
--- nothing is owed any more
-pub wrote-nothing : (m : List ℕ) (to : ℕ) → to ≤ length m → Wrote m to [] m to
-unfolding overwrite
-wrote-nothing m to h = (refl, record { place = omega arith })
-
--- a place that a writer answers lies in the buffer, which keeps its length
-pub place-in : {l m : List ℕ} {at to : ℕ} {xs : List ℕ} → Wrote l at xs m to → to ≤ length m
-place-in {l} {m} {at} {xs = xs} w =
-    let long : length m ≡ length l = ap length (w .0) ∙ length-over xs l at in
-    omega (arith, w .1 .place)
 
 -- one token, and two
 pub put-one : (t : Token EncodedCell) {l m : List ℕ} {at to : ℕ} → Wrote l at (tokenBytes t) m to → Wrote l at (bytesIn (tokenPiece t ∷ [])) m to

@@ -1,8 +1,9 @@
-// The reply of a script (document 01, 'The reply packet'): `build_query_results` of the Rust, with its narrowings, and the room
-// estimate. The writing pass is the third over the records: it comes after every refusal is ruled out by emission's two.
+// The reply of a script (document 01, 'The reply packet'): `build_query_results` of the Rust, with its narrowings, the same reply
+// in packets of an agreed size (document 02, 2026-02), and the room estimate. The writing pass is the third over the records: it comes after every refusal is ruled out by emission's two.
 use emission::ErrorAt;
 use emission::Measure;
 use refusals::BUFFER_TOO_SHORT;
+use refusals::PACKET_SIZE;
 use script::Found;
 use token::ColumnValue;
 use token::KnownColumnValue;
@@ -15,13 +16,14 @@ ghost use Prim.Native.Nat.{_+_, _^_, _≤_, _<_};
 ghost use lib.ListN.{length, drop};
 ghost use Rattle.wire.specs.Fields.{flat};
 ghost use Rattle.wire.specs.Over.{overwrite, PlaceAfter};
+ghost use Rattle.packet.specs.Cut.{packetsOf};
 ghost use Rattle.script.specs.Records.{records};
 ghost use Rattle.script.specs.Runs.{ahead};
 ghost use Rattle.token.specs.Tokens.{cell, long, tokenBytes, putChunks};
 ghost use Rattle.emission.specs.Emission.{infoToken, valueCell, bytesIn, columnPiece, columnPieces, cellPieces};
 ghost use Rattle.emission.specs.Walk.{beginPieces, piecesOf, rowsAfter, emitFrom, leadPieces, setsOf, walked};
 ghost use Rattle.emission.specs.Runs.{errorFound};
-ghost use Rattle.result.specs.Built.{builtOf, bufferOf};
+ghost use Rattle.result.specs.Built.{fitted, leaves, builtOf, bufferOf, builtInPackets, bufferInPackets};
 ghost use Rattle.result.specs.Room.{isRoom};
 ghost use Rattle.result.specs.Inner.{Put};
 
@@ -410,6 +412,35 @@ pub fn build_query_result_with_extras(script: &[u8], buf: &mut [u8]) -> Built
     ensures { λ _. ⌜ now (buf .exit) ≡ bufferOf (now (script .entry)) (now (buf .entry)) ⌝ }
 {
     build_query_results(script, buf)
+}
+
+// The payload of n bytes that a script emits, in packets of a size: it is written so that it ends where the packets will end,
+// and is cut where it stands.
+fn put_in_packets(script: &[u8], size: u16, n: u16, buf: &mut [u8]) -> Built
+    requires { ⌜ (9 ≤ size) × (n ≡ length (bytesIn (walked (now script)))) ⌝ }
+    ensures { λ r. ⌜ r ≡ fitted (packetsOf size (bytesIn (walked (now (script .entry))))) (length (now (buf .entry))) ⌝ }
+    ensures { λ _. ⌜ now (buf .exit) ≡ leaves (fitted (packetsOf size (bytesIn (walked (now (script .entry))))) (length (now (buf .entry)))) (packetsOf size (bytesIn (walked (now (script .entry))))) (now (buf .entry)) ⌝ }
+{
+    let total = packet::packets_length(size, n);
+    if buf.len() < total {
+        return Built::Refused(BUFFER_TOO_SHORT);
+    }
+    put_pieces(buf, total - n as usize, script);
+    Built::Written(packet::cut_in_place(buf, size, n))
+}
+
+// The reply of a script, in packets of a size at the buffer's front.
+pub fn build_query_results_in_packets(script: &[u8], size: usize, buf: &mut [u8]) -> Built
+    ensures { λ r. ⌜ r ≡ builtInPackets size (now (script .entry)) (length (now (buf .entry))) ⌝ }
+    ensures { λ _. ⌜ now (buf .exit) ≡ bufferInPackets size (now (script .entry)) (now (buf .entry)) ⌝ }
+{
+    if !packet::is_packet_size(size) {
+        return Built::Refused(PACKET_SIZE);
+    }
+    match emission::reply_length(script) {
+        Measure::Refused(number) => Built::Refused(number),
+        Measure::Size(length) => put_in_packets(script, size as u16, (length - 8) as u16, buf),
+    }
 }
 
 // Room to lend for a script's reply, or the script's refusal.

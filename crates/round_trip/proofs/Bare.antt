@@ -7,11 +7,10 @@ use Prim.Native.Nat.{ℕ, suc}
 use lib.Dec.{eqb}
 use borrow.Author.Tests.{eqb-true}
 use Rattle.wire.proofs.Cases.{by-test}
-use Rattle.packet.specs.Reply.{packetOf}
 use Rattle.token.specs.Tokens.{Token, EncodedCell, cell, tokenBytes, joined}
 use Rattle.script.specs.Records.{Item, item, cut, records}
 use Rattle.script.specs.Runs.{ahead}
-use Rattle.emission.specs.Emission.{Piece, tokenPiece, classificationPiece, leadingStatus, columnOf, columnPiece, columnPieces, cellOf, cellPieces, tokensIn, emitted, bytesIn, replyOf}
+use Rattle.emission.specs.Emission.{Piece, tokenPiece, classificationPiece, leadingStatus, columnOf, columnPiece, columnPieces, cellOf, cellPieces, tokensIn, pieces, emitted, bytesIn}
 use Rattle.emission.specs.Walk.{walked, beginPieces, piecesOf, rowsAfter, emitFrom, errorIn, leadPieces, walkedBy}
 use Rattle.emission.proofs.BySets.{by-sets, no-verdict}
 use Rattle.emission.proofs.Sizes.{bytes-none, bytes-told, bytes-classified}
@@ -19,7 +18,6 @@ use Rattle.fit.specs.declared.Fit.the-variants.{Yes}
 use Rattle.fit.specs.Misfits.{typesIn, fitOf}
 use Rattle.fit.specs.Records.{beginMisfits, misfitsFrom, misfitsIn}
 use Rattle.fit.proofs.Inverts.{set-fits, fits-set, fits-row, fits-other, fits-first, fits-yes}
-use Rattle.reader.proofs.WellFormed.{tokensPacket}
 use Rattle.round_trip.proofs.Accepted.{by-error}
 
 -- pieces without bytes that are no token's
@@ -85,8 +83,9 @@ bare-script (item k p ∷ rs) e =
     rw h (bare-cat (leadPieces leadingStatus (errorIn 7 rs)) (beginPieces p rs ++ emitFrom 0 rs) (bare-error leadingStatus (errorIn 7 rs)) sets))
     (λ x h. rw h tt)
 
-pub reply-is : (s : List ℕ) → fitOf s ≡ Yes → replyOf s ≡ tokensPacket (emitted s)
-unfolding replyOf tokensPacket emitted walked
-reply-is s f =
+-- the payload of a script that fits is that of its tokens
+pub payload-is : (s : List ℕ) → fitOf s ≡ Yes → bytesIn (pieces s) ≡ joined (map tokenBytes (emitted s))
+unfolding emitted walked
+payload-is s f =
     let y = fits-yes s f in
-    rw (by-sets s (no-verdict s (y .0))) (ap packetOf (bare-bytes (walkedBy (records s)) (bare-script (records s) (y .1))))
+    rw (by-sets s (no-verdict s (y .0))) (bare-bytes (walkedBy (records s)) (bare-script (records s) (y .1)))

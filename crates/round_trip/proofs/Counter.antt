@@ -10,7 +10,7 @@ use lib.IntN.{pos}
 use lib.ListN.{length}
 use Rattle.packet.specs.Status.{hasBit}
 use Rattle.token.specs.Tokens.{Token, Value, metadata, column, row, cell, done, number, null}
-use Rattle.round_trip.specs.RoundTrip.{packetIn, Sent, Reads}
+use Rattle.round_trip.specs.RoundTrip.{Packing, packetsLeft, Sent, Reads}
 use Rattle.round_trip.specs.Reading.{setsEnd, moreButLast}
 use Rattle.round_trip.specs.Data.{dataIn, dataOf, present}
 use Rattle.round_trip.proofs.Data.{data-read}
@@ -64,6 +64,6 @@ rowsOfFirst (rows ∷ sets) = length rows
 pub not-the-data : present (dataIn gathered) ≡ dataOf twoSets → ⊥
 not-the-data e = let two-is-one : _≡_ {A = ℕ} 2 1 = ap rowsOfFirst (e ∙ two-sets-data) in absurd (omega arith)
 
--- so no packet that the builder leaves for the script reads as this reply
-pub never-gathered : (b : List ℕ) (n : ℕ) → Sent twoSets b n → Reads (packetIn twoSets b n) gathered → ⊥
-never-gathered b n h r = not-the-data (data-read twoSets b n h gathered r)
+-- so no packets that the builder leaves for the script read as this reply
+pub never-gathered : (how : Packing) (b : List ℕ) (n : ℕ) → Sent how twoSets b n → Reads (packetsLeft how twoSets b n) gathered → ⊥
+never-gathered how b n h r = not-the-data (data-read how twoSets b n h gathered r)

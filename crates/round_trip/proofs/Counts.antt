@@ -55,4 +55,4 @@ unfolding emitted pieces
 in-emitted s = script-counts (setsIn (records s))
 
 pub counts-read : CountsRead
-counts-read s b n h ts r = ap (countsIn false) (read-is s b n h ts r) ∙ in-emitted s
+counts-read how s b n h ts r = ap (countsIn false) (read-is how s b n h ts r) ∙ in-emitted s

@@ -13,7 +13,7 @@ use Rattle.emission.specs.Emission.{Piece, tokenPiece, infoToken, cellOf, leadi
 use Rattle.emission.specs.Emission.{infoPieces, errorPieces, rowPieces, setsPieces, orElse, emittedBy, pieces, emitted}
 use Rattle.emission.proofs.BySets.{ending, sets-are}
 use Rattle.fit.proofs.Inverts.{fits-yes}
-use Rattle.round_trip.specs.RoundTrip.{packetIn, Sent, Reads}
+use Rattle.round_trip.specs.RoundTrip.{Packing, packetsLeft, Sent, Reads}
 use Rattle.round_trip.specs.Data.{Grouped, grouped, dataIn, unlessError, emittedSets, dataOf, present, DataRead, EqualPackets}
 use Rattle.round_trip.proofs.Formed.{not-refused}
 use Rattle.round_trip.proofs.RoundTrip.{round-trip}
@@ -91,19 +91,19 @@ unfolding emitted pieces
 in-emitted s = ap (λ (g : Grouped). g .sets) (script-groups (setsIn (records s)))
 
 -- the values of a script that was sent, in what it emits
-data-emitted : (s b : List ℕ) (n : ℕ) → Sent s b n → present (dataIn (map states (emitted s))) ≡ dataOf s
+data-emitted : (how : Packing) (s b : List ℕ) (n : ℕ) → Sent how s b n → present (dataIn (map states (emitted s))) ≡ dataOf s
 unfolding verdictOf
-data-emitted s b n h =
+data-emitted how s b n h =
     let accepted = not-refused s (fits-yes s (h .fits) .0) .0 in
     ap present (in-emitted s) ∙ sym (values-are Start (records s) accepted)
 
 pub data-read : DataRead
-data-read s b n h ts r = ap (λ (us : List (Token Value)). present (dataIn us)) (read-is s b n h ts r) ∙ data-emitted s b n h
+data-read how s b n h ts r = ap (λ (us : List (Token Value)). present (dataIn us)) (read-is how s b n h ts r) ∙ data-emitted how s b n h
 
 -- ---- equal packets
 
 pub equal-packets : EqualPackets
-equal-packets s t b c n m h g e =
-    let r : Reads (packetIn s b n) (map states (emitted t)) = rw e (round-trip t c m g) in
-    let same = read-once (packetIn s b n) (map states (emitted s)) (map states (emitted t)) (round-trip s b n h) r in
-    (same, sym (data-emitted s b n h) ∙ ap (λ (us : List (Token Value)). present (dataIn us)) same ∙ data-emitted t c m g)
+equal-packets how too s t b c n m h g e =
+    let r : Reads (packetsLeft how s b n) (map states (emitted t)) = rw e (round-trip too t c m g) in
+    let same = read-once (packetsLeft how s b n) (map states (emitted s)) (map states (emitted t)) (round-trip how s b n h) r in
+    (same, sym (data-emitted how s b n h) ∙ ap (λ (us : List (Token Value)). present (dataIn us)) same ∙ data-emitted too t c m g)

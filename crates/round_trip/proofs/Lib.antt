@@ -11,3 +11,5 @@ pub mod Counts
 pub mod Witness
 pub mod Counter
 pub mod Running
+pub mod AnySize
+pub mod Joined

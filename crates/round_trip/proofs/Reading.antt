@@ -23,7 +23,7 @@ use Rattle.token.specs.declared.KnownDataType.the-variants.{Known, Unknown}
 use Rattle.emission.proofs.BySets.{ending, sets-are}
 use Rattle.reader.proofs.WellFormed.{Phase, WF, wf-metadata, wf-column, wf-row, wf-cell, wf-message, wf-done, wf-last}
 use Rattle.reader.proofs.ReadBack.{same}
-use Rattle.round_trip.specs.RoundTrip.{packetIn, Sent, Reads}
+use Rattle.round_trip.specs.RoundTrip.{Packing, packetsLeft, Sent, Reads}
 use Rattle.round_trip.specs.Reading.{ReadOnce, setsEnd, SetsRead, moreButLast, MoreRead, TerminalRead}
 use Rattle.round_trip.proofs.Formed.{emitted-well-formed}
 use Rattle.round_trip.proofs.RoundTrip.{round-trip}
@@ -31,11 +31,11 @@ use Rattle.round_trip.proofs.RoundTrip.{round-trip}
 -- ---- one list of tokens
 
 pub read-once : ReadOnce
-read-once packet ts us r q = same ts us (λ k. sym (r k) ∙ q k)
+read-once packets ts us r q = same ts us (λ k. sym (r k) ∙ q k)
 
 -- what is read is what the script emits
-pub read-is : (s b : List ℕ) (n : ℕ) → Sent s b n → (ts : List (Token Value)) → Reads (packetIn s b n) ts → ts ≡ map states (emitted s)
-read-is s b n h ts r = read-once (packetIn s b n) ts (map states (emitted s)) r (round-trip s b n h)
+pub read-is : (how : Packing) (s b : List ℕ) (n : ℕ) → Sent how s b n → (ts : List (Token Value)) → Reads (packetsLeft how s b n) ts → ts ≡ map states (emitted s)
+read-is how s b n h ts r = read-once (packetsLeft how s b n) ts (map states (emitted s)) r (round-trip how s b n h)
 
 -- ---- what pieces state
 
@@ -128,7 +128,7 @@ script-ends (s ∷ ss) =
 
 pub sets-read : SetsRead
 unfolding emitted pieces
-sets-read s b n h ts r = rw (read-is s b n h ts r) (script-ends (setsIn (records s)))
+sets-read how s b n h ts r = rw (read-is how s b n h ts r) (script-ends (setsIn (records s)))
 
 -- ---- MORE
 
@@ -142,7 +142,7 @@ formed-more (wf-done ok m w) = let r = formed-more w in rw m r
 formed-more (wf-last ok m) = rw m
 
 pub more-read : MoreRead
-more-read s b n h ts r = rw (read-is s b n h ts r) (formed-more (emitted-well-formed s (h .bytes) (h .fits)))
+more-read how s b n h ts r = rw (read-is how s b n h ts r) (formed-more (emitted-well-formed s (h .bytes) (h .fits)))
 
 -- ---- the terminal error
 
@@ -163,6 +163,6 @@ unfolding emitted pieces emittedBy
 emits s e es first more h g = rw (h, g)
 
 pub terminal-read : TerminalRead
-terminal-read s b n h ts r e es first more f g =
-    let is = read-is s b n h ts r ∙ emits s e es first more f g in
-    is ∙ alone e es (rw is at (more-read s b n h ts r))
+terminal-read how s b n h ts r e es first more f g =
+    let is = read-is how s b n h ts r ∙ emits s e es first more f g in
+    is ∙ alone e es (rw is at (more-read how s b n h ts r))

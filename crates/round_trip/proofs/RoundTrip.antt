@@ -1,57 +1,134 @@
--- The round trip: the packet that the builder leaves is that of the tokens that the script emits, which are well formed and so
--- read back. Assumes nothing.
-use mathlib.Core.Path.{_≡_, ap, _∙_}
-use mathlib.Core.List.{List, map}
-use Prim.Native.Nat.{ℕ, _+_, _≤_, _<_}
+-- The round trip: the packets that the builder leaves have the payload of the tokens that the script emits, which are well formed and
+-- so read back. Assumes nothing.
+use mathlib.Core.Path.{_≡_, refl, ap}
+use mathlib.Core.Bool.{Bool, true, false, cond}
+use mathlib.Core.List.{List, [], _∷_, _++_}
+use mathlib.Core.Option.{some}
+use Prim.Native.Nat.{ℕ, _+_, _-_, _≤_, _<_}
 use native.Mathlib.Omega.{arith}
-use lib.Dec.{eqb, ltb}
-use lib.ListN.{length, drop}
+use lib.Dec.{eqb, leb, ltb}
+use lib.ListN.{length, take, drop}
 use lib.Seq.{take-at}
-use borrow.Author.Tests.{ltb-false}
+use borrow.Author.Tests.{ltb-false, leb-true, eqb-true}
 use Rattle.wire.proofs.Cases.{by-test}
+use Rattle.wire.specs.Over.{overwrite}
 use Rattle.wire.proofs.Over.{over-eq}
-use Rattle.token.specs.Tokens.{states}
+use Rattle.packet.specs.Agreed.{isPacketSize}
+use Rattle.packet.proofs.Sizes.{length-packet}
+use Rattle.token.specs.Tokens.{metadata, joined}
+use Rattle.script.specs.declared.Stage.the-variants.{Start}
+use Rattle.script.specs.Records.{Item, item, cut, records}
+use Rattle.script.specs.Verdict.{verdictFrom, verdictOf}
+use Rattle.result.specs.declared.Built.{Built}
 use Rattle.result.specs.declared.Built.the-variants.{Written, Refused}
-use Rattle.emission.specs.Emission.{emitted, replyOf}
+use Rattle.emission.specs.Emission.{pieces, bytesIn, columnPieces, classificationPiece, leadingStatus, terminalStatus, emitted, replyOf}
+use Rattle.emission.specs.Walk.{beginPieces, emitFrom, errorIn, leadPieces, walkedBy, walked}
 use Rattle.emission.specs.Refusal.{refusalOf}
-use Rattle.result.specs.Built.{builtOf, bufferOf}
-use Rattle.fit.proofs.Inverts.{fits-yes}
-use Rattle.reader.proofs.WellFormed.{tokensPacket}
+use Rattle.emission.proofs.BySets.{by-sets}
+use Rattle.emission.proofs.Sizes.{size-told, size-cat, size-metadata}
+use Rattle.emission.proofs.Replies.{size-error}
+use Rattle.script.specs.Runs.{ahead}
+use Rattle.result.specs.Built.{fitted, builtOf, bufferOf, repliesOf, builtInPackets, bufferInPackets}
+use Rattle.payload.specs.Packets.{packetsIn}
+use Rattle.payload.proofs.CodeReads.{clash, and-true}
+use Rattle.payload.proofs.Joined.{Whole, joined-one}
+use Rattle.payload.proofs.Joined as cuts
 use Rattle.reader.proofs.ReadBack.{reads-back}
-use Rattle.round_trip.specs.RoundTrip.{packetIn, Sent, Reads, RoundTrip}
+use Rattle.round_trip.specs.RoundTrip.{Packing, single, sized, builtBy, packetsLeft, RoundTrip}
+use Rattle.round_trip.specs.AnySize.{repliesBy, Agreed}
+use Rattle.round_trip.proofs.Accepted.{by-error}
 use Rattle.round_trip.proofs.Formed.{emitted-well-formed, not-refused}
-use Rattle.round_trip.proofs.Bare.{reply-is}
+use Rattle.round_trip.proofs.Bare.{payload-is}
 
--- the builder wrote the reply, for which there is room
-written : (s : List ℕ) (m n : ℕ) → builtOf s m ≡ Written n → (length (replyOf s) ≡ n) × (length (replyOf s) ≤ m)
-unfolding builtOf
-written s m n e =
+-- ---- what a builder wrote
+
+-- the bytes for which there is room
+fitted-is : (bytes : List ℕ) (m n : ℕ) → fitted bytes m ≡ Written n → (length bytes ≡ n) × (length bytes ≤ m)
+fitted-is bytes m n e =
+    by-test (ltb m (length bytes))
+    (λ g. let c : _≡_ (Refused 20) (Written n) = rw g at e in clash (cc))
+    (λ g. let c : _≡_ (Written (length bytes)) (Written n) = rw g at e in let z : length bytes ≡ n = cc in (z, ltb-false m (length bytes) g))
+
+-- a script that was not refused, in packets of a size that can be agreed
+pub record Written-as (how : Packing) (s : List ℕ) (m n : ℕ) : Type 0 where
+  pub agreed : Agreed how
+  pub accepted : refusalOf s ≡ 0
+  pub size : length (repliesBy how s) ≡ n
+  pub room : length (repliesBy how s) ≤ m
+
+accepted-by : (s bytes : List ℕ) (m n : ℕ) → cond (eqb (refusalOf s) 0) (fitted bytes m) (Refused (refusalOf s)) ≡ Written n
+    → (refusalOf s ≡ 0) × (length bytes ≡ n) × (length bytes ≤ m)
+accepted-by s bytes m n e =
     by-test (eqb (refusalOf s) 0)
-    (λ h. by-test (ltb m (length (replyOf s)))
-    (λ g. let c : _≡_ (Refused 20) (Written n) = rw (h, g) at e in let z : _≡_ {A = ℕ} 0 1 = cc in absurd (omega arith))
-    (λ g. let c : _≡_ (Written (length (replyOf s))) (Written n) = rw (h, g) at e in
-    let z : length (replyOf s) ≡ n = cc in
-    (z, ltb-false m (length (replyOf s)) g)))
-    (λ h. let c : _≡_ (Refused (refusalOf s)) (Written n) = rw h at e in let z : _≡_ {A = ℕ} 0 1 = cc in absurd (omega arith))
+    (λ h. let c : fitted bytes m ≡ Written n = rw h at e in let w = fitted-is bytes m n c in (eqb-true (refusalOf s) 0 h, w .0, w .1))
+    (λ h. let c : _≡_ (Refused (refusalOf s)) (Written n) = rw h at e in clash (cc))
 
-module _ (s b : List ℕ) (n : ℕ) (h : Sent s b n) where
-  -- the bytes that it left are the reply
-  reply-left : packetIn s b n ≡ replyOf s
-  unfolding bufferOf
-  reply-left =
-      let w = written s (length b) n (h .built) in
-      let room : 0 + length (replyOf s) ≤ length b = omega (arith, w .1) in
-      rw (h .built, over-eq (replyOf s) b 0 room) (take-at (replyOf s) (drop (0 + length (replyOf s)) b) n (w .0))
+agreed-by : (agreed : Bool) (b : Built) (f : ℕ) {n : ℕ} → cond agreed b (Refused f) ≡ Written n → (agreed ≡ true) × (b ≡ Written n)
+agreed-by true b f e = (refl, e)
+agreed-by false b f e = clash (cc)
 
-  -- the packet of the tokens that the script emits
-  packet-is : packetIn s b n ≡ tokensPacket (emitted s)
-  packet-is = reply-left ∙ reply-is s (h .fits)
+pub written : (how : Packing) (s : List ℕ) (m n : ℕ) → builtBy how s m ≡ Written n → Written-as how s m n
+unfolding builtOf builtInPackets
+written single s m n e = let w = accepted-by s (replyOf s) m n e in record { agreed = tt; accepted = w .0; size = w .1; room = w .2 }
+written (sized size) s m n e =
+    let a = agreed-by (isPacketSize size) _ 32 e in
+    let w = accepted-by s (repliesOf size s) m n (a .1) in
+    record { agreed = a .0; accepted = w .0; size = w .1; room = w .2 }
 
-  packet-short : length (tokensPacket (emitted s)) < 65536
-  packet-short = let r = not-refused s (fits-yes s (h .fits) .0) in omega (arith, r .2, ap length (reply-is s (h .fits)))
+-- what it leaves of the lent bytes begins with them
+left-first : (bytes b : List ℕ) (n : ℕ) → length bytes ≡ n → length bytes ≤ length b → take n (overwrite b 0 bytes) ≡ bytes
+left-first bytes b n e h =
+    let room : 0 + length bytes ≤ length b = omega arith in
+    rw (over-eq bytes b 0 room) (take-at bytes (drop (0 + length bytes) b) n e)
 
-  read : (p : List ℕ) → p ≡ tokensPacket (emitted s) → Reads p (map states (emitted s))
-  read p e k = rw e (reads-back (emitted s) (emitted-well-formed s (h .bytes) (h .fits)) packet-short k)
+pub left-is : (how : Packing) (s b : List ℕ) (n : ℕ) → builtBy how s (length b) ≡ Written n → packetsLeft how s b n ≡ repliesBy how s
+unfolding bufferOf bufferInPackets
+left-is single s b n e = let w = written single s (length b) n e in rw e (left-first (replyOf s) b n (w .size) (w .room))
+left-is (sized size) s b n e = let w = written (sized size) s (length b) n e in rw e (left-first (repliesOf size s) b n (w .size) (w .room))
+
+-- ---- the payload of an accepted script
+
+begins-some : (p : List ℕ) (rs : List Item) → 3 ≤ length (bytesIn (beginPieces p rs))
+begins-some p rs =
+    omega (arith, size-told (metadata (length (ahead 2 rs))) (columnPieces (ahead 2 rs) ++ (classificationPiece p ∷ [])), size-metadata (length (ahead 2 rs)))
+
+walk-some : (rs : List Item) → verdictFrom Start rs ≡ 0 → 1 ≤ length (bytesIn (walkedBy rs))
+unfolding verdictFrom walkedBy
+walk-some [] e = absurd (omega arith)
+walk-some (cut ∷ rs) e = absurd (omega arith)
+walk-some (item k p ∷ rs) e =
+    let lead = leadPieces leadingStatus (errorIn 7 rs) in
+    by-error (errorIn 8 rs)
+    (λ h. rw h (omega (arith, size-cat lead (beginPieces p rs ++ emitFrom 0 rs), size-cat (beginPieces p rs) (emitFrom 0 rs), begins-some p rs)))
+    (λ x h. rw h (omega (arith, size-error terminalStatus x)))
+
+-- it has a byte or more, and one packet could have it
+pub payload-some : (s : List ℕ) → refusalOf s ≡ 0 → 1 ≤ length (bytesIn (pieces s))
+unfolding verdictOf walked
+payload-some s e = let v = not-refused s e .0 in rw (by-sets s v) (walk-some (records s) v)
+
+pub payload-short : (s : List ℕ) → refusalOf s ≡ 0 → 8 + length (bytesIn (pieces s)) < 65536
+unfolding replyOf
+payload-short s e = let r = not-refused s e .2 in omega (arith, length-packet (bytesIn (pieces s)))
+
+-- however it was sent, joined it is that payload
+pub replies-whole : (how : Packing) (s : List ℕ) → refusalOf s ≡ 0 → Agreed how → Whole (packetsIn (repliesBy how s)) (bytesIn (pieces s))
+unfolding replyOf repliesOf
+replies-whole single s e a = joined-one (bytesIn (pieces s)) (payload-some s e) (payload-short s e)
+replies-whole (sized size) s e a =
+    let w = and-true (leb 512 size) (leb size 32767) a in
+    let x = leb-true 512 size (w .0) in
+    let y = leb-true size 32767 (w .1) in
+    cuts.joined size (bytesIn (pieces s)) (omega arith) (omega arith) (payload-some s e)
+
+-- ---- the round trip
 
 pub round-trip : RoundTrip
-round-trip s b n h = read s b n h (packetIn s b n) (packet-is s b n h)
+round-trip how s b n h k =
+    let w = written how s (length b) n (h .built) in
+    let q = payload-is s (h .fits) in
+    let some = payload-some s (w .accepted) in
+    let short = payload-short s (w .accepted) in
+    rw (left-is how s b n (h .built))
+    (reads-back (repliesBy how s) (emitted s) (emitted-well-formed s (h .bytes) (h .fits)) (rw q at (replies-whole how s (w .accepted) (w .agreed)))
+    (omega (arith, ap length q)) (omega (arith, ap length q)) k)

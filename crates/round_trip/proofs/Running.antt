@@ -7,7 +7,7 @@ use lib.ListN.{length, take, getD}
 use Rattle.wire.specs.Part.{partBytes}
 use Rattle.result.specs.declared.Built.{Built}
 use Rattle.result.specs.declared.Built.the-variants as built
-use Rattle.result.specs.Built.{builtOf, bufferOf}
+use Rattle.round_trip.specs.RoundTrip.{Packing, builtBy, bufferBy}
 use Rattle.reader.specs.declared.Answer.{Answer}
 use Rattle.reader.specs.declared.Position.{Position}
 use Rattle.reader.specs.declared.Step.{Step}
@@ -41,24 +41,24 @@ last-answer buf p pos len n k part e z g =
 
 -- ---- the script's reply
 
-module _ (s b : List ℕ) (k : ℕ) {r : Built} (e : r ≡ builtOf s (length b)) where
+module _ (how : Packing) (s b : List ℕ) (k : ℕ) {r : Built} (e : r ≡ builtBy how s (length b)) where
   module _ {f : ℕ} (h : r ≡ built.Refused f) where
-    pub refused-is : Refused f ≡ kthOf (builtOf s (length b)) (bufferOf s b) k
+    pub refused-is : Refused f ≡ kthOf (builtBy how s (length b)) (bufferBy how s b) k
     unfolding kthOf
     refused-is = rw (← e, h)
 
-    pub refused-back : ReadBack s b k (Refused f)
+    pub refused-back : ReadBack how s b k (Refused f)
     refused-back n w y =
         let c : _≡_ (built.Refused f) (built.Written n) = sym h ∙ e ∙ w in
         let z : _≡_ {A = ℕ} 0 1 = cc in absurd (omega arith)
 
-  module _ {n : ℕ} {m : List ℕ} {a : Answer} (h : r ≡ built.Written n) (g : m ≡ bufferOf s b) (x : a ≡ answerOf k (take n m) freshPosition) where
-    pub answered-is : Answered a ≡ kthOf (builtOf s (length b)) (bufferOf s b) k
+  module _ {n : ℕ} {m : List ℕ} {a : Answer} (h : r ≡ built.Written n) (g : m ≡ bufferBy how s b) (x : a ≡ answerOf k (take n m) freshPosition) where
+    pub answered-is : Answered a ≡ kthOf (builtBy how s (length b)) (bufferBy how s b) k
     unfolding kthOf
     answered-is = rw (← e, h, x, g)
 
-    pub answered-back : Bytes s → ReadBack s b k (Answered a)
+    pub answered-back : Bytes s → ReadBack how s b k (Answered a)
     answered-back known l w y =
         let c : _≡_ (built.Written n) (built.Written l) = sym h ∙ e ∙ w in
         let same : n ≡ l = cc in
-        rw (x, g, same) (round-trip s b l (record { bytes = known; built = w; fits = y }) k)
+        rw (x, g, same) (round-trip how s b l (record { bytes = known; built = w; fits = y }) k)

@@ -32,7 +32,7 @@ use Rattle.result.specs.Built.{builtOf}
 use Rattle.fit.specs.Misfits.{cellFits, wrongCells, wrongInRow, columnFits, wrongColumns, typesIn}
 use Rattle.fit.specs.Misfits.{rowsMisfits, setMisfits, setsMisfits, misfits, fitOf}
 use Rattle.round_trip.specs.Octets.{Bytes}
-use Rattle.round_trip.specs.RoundTrip.{packetIn, Sent, Reads}
+use Rattle.round_trip.specs.RoundTrip.{single, packetsLeft, Sent, Reads}
 use Rattle.round_trip.specs.Data.{valueBy, dataIn, dataOf, present}
 use Rattle.round_trip.proofs.RoundTrip.{round-trip}
 use Rattle.round_trip.proofs.Reading.{read-is, terminal-read}
@@ -129,7 +129,7 @@ scripts-bytes : (allBytes twoSets ≡ true) × (allBytes allKinds ≡ true) × (
 unfolding le be
 scripts-bytes = (refl, refl, refl)
 
-scripts-sent : Sent twoSets lent 67 × Sent allKinds lent 341 × Sent terminal lent 42
+scripts-sent : Sent single twoSets lent 67 × Sent single allKinds lent 341 × Sent single terminal lent 42
 unfolding flatMap be le leAt flat unitsOf units total surrogateOf surrogates paired anyHigh wellFormed hasPair charactersIn characters
     replyHeader packetOf parse records cellStage stageAfter columnShaped infoShaped numberWidth cellShaped chunkShaped errorShaped shaped textsOf allWellFormed
     faultOf verdictFrom verdictOf dataTypeOf dataTypes dataTypeIn lengthWidth collationSize columnValueOf columnValues columnValueIn nameFault nameCount messageLength ahead every cellsIn rowsIn upToSet
@@ -141,13 +141,13 @@ scripts-sent = (
   record { bytes = bytes-are terminal (scripts-bytes .2); built = refl; fits = refl },
 )
 
-pub two-sets-sent : Sent twoSets lent 67
+pub two-sets-sent : Sent single twoSets lent 67
 two-sets-sent = scripts-sent .0
 
-pub all-kinds-sent : Sent allKinds lent 341
+pub all-kinds-sent : Sent single allKinds lent 341
 all-kinds-sent = scripts-sent .1
 
-pub terminal-sent : Sent terminal lent 42
+pub terminal-sent : Sent single terminal lent 42
 terminal-sent = scripts-sent .2
 
 -- ---- what is read of `twoSets`: the values of its sets
@@ -159,8 +159,8 @@ pub two-sets-data : dataOf twoSets ≡ present twoSetsValues
 unfolding be le leAt parse records signed valueBy ahead every cellsIn rowsIn upToSet setsIn
 two-sets-data = refl
 
-pub two-sets-values : (ts : List (Token Value)) → Reads (packetIn twoSets lent 67) ts → present (dataIn ts) ≡ present twoSetsValues
-two-sets-values ts r = data-read twoSets lent 67 two-sets-sent ts r ∙ two-sets-data
+pub two-sets-values : (ts : List (Token Value)) → Reads (packetsLeft single twoSets lent 67) ts → present (dataIn ts) ≡ present twoSetsValues
+two-sets-values ts r = data-read single twoSets lent 67 two-sets-sent ts r ∙ two-sets-data
 
 -- ---- what is read of `allKinds`: these tokens, and no other
 
@@ -210,16 +210,16 @@ unfolding flatMap be le leAt parse records dataTypeOf dataTypes dataTypeIn colla
     setPieces setsPieces emittedBy pieces emitted
 all-kinds-emitted = refl
 
-reads-as : (packet : List ℕ) (ts us : List (Token Value)) → ts ≡ us → Reads packet ts → Reads packet us
-reads-as packet ts us e r = rw e at r
+reads-as : (packets : List ℕ) (ts us : List (Token Value)) → ts ≡ us → Reads packets ts → Reads packets us
+reads-as packets ts us e r = rw e at r
 
-pub all-kinds-reads : Reads (packetIn allKinds lent 341) allKindsTokens
+pub all-kinds-reads : Reads (packetsLeft single allKinds lent 341) allKindsTokens
 all-kinds-reads =
-    let is = round-trip allKinds lent 341 all-kinds-sent in
-    reads-as (packetIn allKinds lent 341) (map states (emitted allKinds)) allKindsTokens all-kinds-emitted is
+    let is = round-trip single allKinds lent 341 all-kinds-sent in
+    reads-as (packetsLeft single allKinds lent 341) (map states (emitted allKinds)) allKindsTokens all-kinds-emitted is
 
-pub all-kinds-only : (ts : List (Token Value)) → Reads (packetIn allKinds lent 341) ts → ts ≡ allKindsTokens
-all-kinds-only ts r = read-is allKinds lent 341 all-kinds-sent ts r ∙ all-kinds-emitted
+pub all-kinds-only : (ts : List (Token Value)) → Reads (packetsLeft single allKinds lent 341) ts → ts ≡ allKindsTokens
+all-kinds-only ts r = read-is single allKinds lent 341 all-kinds-sent ts r ∙ all-kinds-emitted
 
 -- its values, by its records and in these tokens
 abbrev pub allKindsValues : List (List (List Value))
@@ -248,9 +248,9 @@ all-kinds-data = (refl, refl)
 abbrev pub terminalTokens : List (Token Value)
 terminalTokens = message 0xAA 50001 1 16 (be 4 0x6E00_6F00) [] [] 1 ∷ done 0x0002 0xC1 0 ∷ []
 
-pub terminal-only : (ts : List (Token Value)) → Reads (packetIn terminal lent 42) ts → ts ≡ terminalTokens
+pub terminal-only : (ts : List (Token Value)) → Reads (packetsLeft single terminal lent 42) ts → ts ≡ terminalTokens
 unfolding be le leAt parse records ahead every cellsIn rowsIn upToSet setsIn
-terminal-only ts r = terminal-read terminal lent 42 terminal-sent ts r (be 9 0x51C30000_10_6E00_6F00) [] _ _ refl refl
+terminal-only ts r = terminal-read single terminal lent 42 terminal-sent ts r (be 9 0x51C30000_10_6E00_6F00) [] _ _ refl refl
 
 pub terminal-data : dataOf terminal ≡ []
 unfolding be le leAt parse records ahead every cellsIn rowsIn upToSet setsIn

@@ -14,7 +14,7 @@ use Rattle.token.specs.Tokens.{number, part, null, signed, joined}
 use Rattle.script.specs.Records.{records}
 use Rattle.script.specs.Sets.{ScriptCell, ScriptRow, ScriptSet, setsIn}
 use Rattle.emission.specs.Emission.{emitted}
-use Rattle.round_trip.specs.RoundTrip.{packetIn, Sent, Reads}
+use Rattle.round_trip.specs.RoundTrip.{Packing, packetsLeft, Sent, Reads}
 
 -- ---- of tokens
 
@@ -110,19 +110,19 @@ present sets = map (λ (rows : List (List Value)). map (λ (values : List Value)
 -- those of the script's kind 1 records, their rows those of its kind 4, the values those of its kind 5 with their chunks.
 abbrev pub DataRead : Type 0
 DataRead =
-    (s b : List ℕ) (n : ℕ) → Sent s b n → (ts : List (Token Value)) → Reads (packetIn s b n) ts
+    (how : Packing) (s b : List ℕ) (n : ℕ) → Sent how s b n → (ts : List (Token Value)) → Reads (packetsLeft how s b n) ts
     → present (dataIn ts) ≡ dataOf s
 
 -- Each emitted set ends in a DONE carrying its count of rows, the number of its kind 4 records; by SetsRead (Reading) this is the
 -- number of ROWs read since its COLMETADATA.
 abbrev pub CountsRead : Type 0
 CountsRead =
-    (s b : List ℕ) (n : ℕ) → Sent s b n → (ts : List (Token Value)) → Reads (packetIn s b n) ts
+    (how : Packing) (s b : List ℕ) (n : ℕ) → Sent how s b n → (ts : List (Token Value)) → Reads (packetsLeft how s b n) ts
     → countsIn false ts ≡ countsOf s
 
 -- Two scripts with equal packets agree in every token that they state, and in their sets, rows and values: nothing of these is lost on
 -- the way.
 abbrev pub EqualPackets : Type 0
 EqualPackets =
-    (s t b c : List ℕ) (n m : ℕ) → Sent s b n → Sent t c m → packetIn s b n ≡ packetIn t c m
+    (how too : Packing) (s t b c : List ℕ) (n m : ℕ) → Sent how s b n → Sent too t c m → packetsLeft how s b n ≡ packetsLeft too t c m
     → (map states (emitted s) ≡ map states (emitted t)) × (dataOf s ≡ dataOf t)

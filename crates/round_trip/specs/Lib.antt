@@ -1,5 +1,7 @@
 pub mod Octets
 pub mod RoundTrip
+pub mod AnySize
+pub mod Joined
 pub mod Reading
 pub mod Data
 pub mod Running

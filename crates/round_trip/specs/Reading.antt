@@ -1,4 +1,4 @@
--- What holds of the tokens that are read from the packet of a script that was sent (document 01, 'What a script emits'): each set ends
+-- What holds of the tokens that are read from the packets of a script that was sent (document 01, 'What a script emits'): each set ends
 -- in a DONE that counts its rows, MORE, the terminal error. It is said of whatever tokens are read, and not by way of what the builder
 -- means to send. Rests on RoundTrip, and on script's records and sets.
 use Prim.Native.Nat.{ℕ, zero, suc}
@@ -13,11 +13,11 @@ use Rattle.packet.specs.Status.{hasBit}
 use Rattle.token.specs.Tokens.{Token, Value, metadata, column, row, cell, done, message}
 use Rattle.script.specs.Records.{records}
 use Rattle.script.specs.Sets.{ScriptSet, setsIn}
-use Rattle.round_trip.specs.RoundTrip.{packetIn, Sent, Reads}
+use Rattle.round_trip.specs.RoundTrip.{Packing, packetsLeft, Sent, Reads}
 
--- a packet reads as one list of tokens at most
+-- packets read as one list of tokens at most
 abbrev pub ReadOnce : Type 0
-ReadOnce = (packet : List ℕ) (ts us : List (Token Value)) → Reads packet ts → Reads packet us → ts ≡ us
+ReadOnce = (packets : List ℕ) (ts us : List (Token Value)) → Reads packets ts → Reads packets us → ts ≡ us
 
 -- Each set runs from its COLMETADATA to a DONE, which carries the number of ROWs read since; columns, rows and cells stand in a set,
 -- cells after a ROW. `some rows`: a set has begun, and so many rows of it have come. Outside a set stand messages, and DONEs that count
@@ -42,7 +42,7 @@ setsEnd (some rows) (message k n s c t v p l ∷ ts) = setsEnd (some rows) ts
 -- every set that is read ends in a DONE carrying the number of rows read since its COLMETADATA; that this is the set's count of rows in
 -- the script is CountsRead (Data)
 abbrev pub SetsRead : Type 0
-SetsRead = (s b : List ℕ) (n : ℕ) → Sent s b n → (ts : List (Token Value)) → Reads (packetIn s b n) ts → setsEnd none ts ≡ true
+SetsRead = (how : Packing) (s b : List ℕ) (n : ℕ) → Sent how s b n → (ts : List (Token Value)) → Reads (packetsLeft how s b n) ts → setsEnd none ts ≡ true
 
 abbrev pub isEmpty : {A : Type 0} → List A → Bool
 isEmpty [] = true
@@ -60,12 +60,12 @@ moreButLast (message k n s c t v p l ∷ ts) = moreButLast ts
 
 -- the reply ends with the only DONE that has no MORE
 abbrev pub MoreRead : Type 0
-MoreRead = (s b : List ℕ) (n : ℕ) → Sent s b n → (ts : List (Token Value)) → Reads (packetIn s b n) ts → moreButLast ts ≡ true
+MoreRead = (how : Packing) (s b : List ℕ) (n : ℕ) → Sent how s b n → (ts : List (Token Value)) → Reads (packetsLeft how s b n) ts → moreButLast ts ≡ true
 
 -- 'Kind 8 in the first set: its ERROR, DONE 0002, nothing more': e is that record's payload, a number, a severity and a text
 abbrev pub TerminalRead : Type 0
 TerminalRead =
-    (s b : List ℕ) (n : ℕ) → Sent s b n → (ts : List (Token Value)) → Reads (packetIn s b n) ts
+    (how : Packing) (s b : List ℕ) (n : ℕ) → Sent how s b n → (ts : List (Token Value)) → Reads (packetsLeft how s b n) ts
     → (e : List ℕ) (es : List (List ℕ)) (first : ScriptSet) (more : List ScriptSet)
     → setsIn (records s) ≡ first ∷ more → first .terminal ≡ e ∷ es
     → ts ≡ message 0xAA (leAt 4 e) 1 (leAt 1 (drop 4 e)) (drop 5 e) [] [] 1 ∷ done 0x0002 0xC1 0 ∷ []

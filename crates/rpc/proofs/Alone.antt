@@ -2,7 +2,7 @@
 use mathlib.Core.Path.{_≡_, refl}
 use Prim.Native.Nat.{ℕ}
 use Rattle.request.specs.Headers.{allHeaders}
-use Rattle.payload.specs.Places.{Read, whole, refused}
+use Rattle.payload.specs.Places.{bodySource, Read, whole, refused}
 use Rattle.rpc.specs.Rpc.{Sent, callAfter, told, rpcOf}
 use Rattle.rpc.specs.Alone.{withoutAsked, AskedAlone}
 
@@ -12,4 +12,4 @@ same (refused n) i j = refl
 
 pub asked-alone : AskedAlone
 unfolding rpcOf
-asked-alone body i j = same (callAfter body (allHeaders body)) i j
+asked-alone body i j = same (callAfter (bodySource body) (allHeaders body)) i j

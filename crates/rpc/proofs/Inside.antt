@@ -11,7 +11,7 @@ use Rattle.wire.specs.declared.Part.{Part}
 use Rattle.request.specs.Headers.{allHeaders}
 use Rattle.request.specs.declared.Headers.{Headers}
 use Rattle.request.specs.declared.Headers.the-variants.{Length, Short, PastEnd}
-use Rattle.payload.specs.Places.{Place, Read, whole, refused}
+use Rattle.payload.specs.Places.{bodySource, Source, Place, Read, whole, refused}
 use Rattle.payload.proofs.Each.{Each, got, none, each-of, cond-each, must-each, number-each, part-each, then-each}
 use Rattle.cells.specs.declared.Value.{Value}
 use Rattle.cells.specs.declared.Value.the-variants as value
@@ -32,25 +32,25 @@ unfolding renamed
 renamed-each Q name (whole a to) h = h
 renamed-each Q name (refused n) h = none
 
-module _ (b : List ℕ) where
+module _ (b : Source) where
   abbrev Onward : Place → Place → Type 0
-  Onward at to = (at < to) × (to ≤ length b)
+  Onward at to = (at < to) × (to ≤ length (b .bytes))
 
   -- ---- the head
 
   abbrev ProcedureTo : Procedure → Place → Type 0
-  ProcedureTo p to = ProcedureIn (length b) p
+  ProcedureTo p to = ProcedureIn (length (b .bytes)) p
 
   procedure-in : (at : Place) → Each ProcedureTo (procedureAt b at)
   unfolding procedureAt
   procedure-in at =
       number-each _ 2 b at _ (λ h1.
-      cond-each _ (eqb (leAt 2 (drop at b)) 0xFFFF) _ _
+      cond-each _ (eqb (leAt 2 (drop at (b .bytes))) 0xFFFF) _ _
       (λ e. number-each _ 2 b (at + 2) _ (λ h2. got tt))
       (λ e. part-each _ _ b (at + 2) _ (λ h2. got h2)))
 
   abbrev HeadTo : Head → Place → Type 0
-  HeadTo h to = ProcedureIn (length b) (h .procedure)
+  HeadTo h to = ProcedureIn (length (b .bytes)) (h .procedure)
 
   head-in : (at : Place) → Each HeadTo (headAt b at)
   unfolding headAt
@@ -61,7 +61,7 @@ module _ (b : List ℕ) where
   -- ---- a parameter
 
   abbrev NameTo : Place → Part → Place → Type 0
-  NameTo at q to = Onward at to × PartIn (length b) q
+  NameTo at q to = Onward at to × PartIn (length (b .bytes)) q
 
   name-in : (at : Place) → Each (NameTo at) (nameAt b at)
   unfolding nameAt
@@ -80,7 +80,7 @@ module _ (b : List ℕ) where
       must-each _ _ _ _ (λ e. got (omega arith, h1)))
 
   abbrev MetadataTo : Place → Metadata → Place → Type 0
-  MetadataTo at m to = Onward at to × PartIn (length b) (m .name) × PartIn (length b) (m .info .collation)
+  MetadataTo at m to = Onward at to × PartIn (length (b .bytes)) (m .name) × PartIn (length (b .bytes)) (m .info .collation)
 
   metadata-in : (at : Place) → Each (MetadataTo at) (metadataAt b at)
   unfolding metadataAt
@@ -91,7 +91,7 @@ module _ (b : List ℕ) where
       got ((omega arith, h3 .0 .1), h1 .1, h3 .1))))
 
   abbrev ParameterTo : Place → Parameter → Place → Type 0
-  ParameterTo at p to = Onward at to × ParameterIn (length b) p
+  ParameterTo at p to = Onward at to × ParameterIn (length (b .bytes)) p
 
   pub parameter-in : (at : Place) → Each (ParameterTo at) (parameterAt b at)
   unfolding parameterAt valueAt
@@ -107,7 +107,7 @@ module _ (b : List ℕ) where
   -- ---- parameters
 
   abbrev Entry : ParameterAt → Type 0
-  Entry p = (p .next ≤ length b) × ParameterIn (length b) (p .parameter)
+  Entry p = (p .next ≤ length (b .bytes)) × ParameterIn (length (b .bytes)) (p .parameter)
 
   abbrev Entries : List ParameterAt → Type 0
   Entries [] = Unit {0}
@@ -120,7 +120,7 @@ module _ (b : List ℕ) where
   unfolding parametersAt
   parameters-in zero at = none
   parameters-in (suc turns) at =
-      cond-each _ (leb (length b) at) _ _
+      cond-each _ (leb (length (b .bytes)) at) _ _
       (λ e. got tt)
       (λ e.
       then-each (ParameterTo at) _ _ _ (parameter-in at) (λ p a1 h1.
@@ -130,7 +130,7 @@ module _ (b : List ℕ) where
   -- ---- a call and what is answered of it
 
   abbrev SentTo : Sent → Place → Type 0
-  SentTo s to = ProcedureIn (length b) (s .head .procedure) × Entries (s .parameters)
+  SentTo s to = ProcedureIn (length (b .bytes)) (s .head .procedure) × Entries (s .parameters)
 
   call-in : (at : Place) → Each SentTo (callAt b at)
   unfolding callAt
@@ -144,27 +144,27 @@ module _ (b : List ℕ) where
   after-in PastEnd = none
   after-in (Length n) = call-in n
 
-  asked-in : (number : ℕ) (ps : List ParameterAt) → Entries ps → AskedIn (length b) (askedIn number ps)
+  asked-in : (number : ℕ) (ps : List ParameterAt) → Entries ps → AskedIn (length (b .bytes)) (askedIn number ps)
   unfolding askedIn
   asked-in number [] h = tt
   asked-in zero (p ∷ ps) h = h .0 .1
   asked-in (suc number) (p ∷ ps) h = asked-in number ps (h .1)
 
-  bytes-in : (limit : ℕ) (v : Value) (end : Place) → end ≤ length b → ValueIn (length b) v → PartIn (length b) (bytesTo limit v end)
+  bytes-in : (limit : ℕ) (v : Value) (end : Place) → end ≤ length (b .bytes) → ValueIn (length (b .bytes)) v → PartIn (length (b .bytes)) (bytesTo limit v end)
   bytes-in limit (value.Number n) end h i = omega arith
   bytes-in limit (value.Part q) end h i = i
   bytes-in limit (value.Max q) end h i = i
   bytes-in limit value.Null end h i = omega arith
 
-  first-in : (ps : List ParameterAt) → Entries ps → StatementIn (length b) (firstIn ps)
+  first-in : (ps : List ParameterAt) → Entries ps → StatementIn (length (b .bytes)) (firstIn ps)
   first-in [] h = tt
   first-in (p ∷ ps) ((h, (name, collation, v)), hs) = bytes-in (p .parameter .info .limit) (p .parameter .value) (p .next) h v
 
-  run-in : (runs : Bool) (ps : List ParameterAt) → Entries ps → StatementIn (length b) (cond runs (firstIn ps) statement.Missing)
+  run-in : (runs : Bool) (ps : List ParameterAt) → Entries ps → StatementIn (length (b .bytes)) (cond runs (firstIn ps) statement.Missing)
   run-in true ps h = first-in ps h
   run-in false ps h = tt
 
-  told-in : (number : ℕ) (x : Read Sent) → Each SentTo x → AnswerIn (length b) (told number x)
+  told-in : (number : ℕ) (x : Read Sent) → Each SentTo x → AnswerIn (length (b .bytes)) (told number x)
   told-in number (whole s to) h =
       let i = each-of SentTo h refl in
       (i .0, asked-in number (s .parameters) (i .1), run-in (runsStatement (s .head .procedure)) (s .parameters) (i .1))
@@ -172,4 +172,4 @@ module _ (b : List ℕ) where
 
 pub parts-inside : PartsInside
 unfolding rpcOf
-parts-inside b number = told-in b number (callAfter b (allHeaders b)) (after-in b (allHeaders b))
+parts-inside b number = told-in (bodySource b) number (callAfter (bodySource b) (allHeaders b)) (after-in (bodySource b) (allHeaders b))

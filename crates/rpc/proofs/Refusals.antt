@@ -2,14 +2,13 @@
 use mathlib.Core.Path.{_≡_, refl}
 use mathlib.Core.Bool.{Bool, true, false, cond}
 use mathlib.Core.Logic.{inl, inr}
-use mathlib.Core.List.{List}
 use Prim.Native.Nat.{ℕ, zero, suc}
 use lib.Dec.{eqb, leb}
 use lib.ListN.{length}
 use Rattle.request.specs.Headers.{allHeaders}
 use Rattle.request.specs.declared.Headers.{Headers}
 use Rattle.request.specs.declared.Headers.the-variants.{Length, Short, PastEnd}
-use Rattle.payload.specs.Places.{Place, Read, whole, refused, must, then}
+use Rattle.payload.specs.Places.{bodySource, Source, Place, Read, whole, refused, must, then}
 use Rattle.payload.proofs.CodeReads.{clash}
 use Rattle.rpc.specs.declared.Rpc.the-variants as rpc
 use Rattle.rpc.specs.Rpc.{renamed, inMetadata, valueAt, parameterAt, parametersAt, Sent, callAt, callAfter, told, rpcOf}
@@ -46,7 +45,7 @@ metadata-own n = go (eqb n 24)
     go true = inr (inl refl)
     go false = inr (inr refl)
 
-module _ (b : List ℕ) where
+module _ (b : Source) where
   parameter-own : (at : Place) → Own (parameterAt b at)
   unfolding parameterAt valueAt
   parameter-own at =
@@ -57,7 +56,7 @@ module _ (b : List ℕ) where
   unfolding parametersAt
   parameters-own zero at = number (inr (inl refl))
   parameters-own (suc turns) at =
-      cond-own (leb (length b) at) _ _ read
+      cond-own (leb (length (b .bytes)) at) _ _ read
       (then-own _ _ (parameter-own at) (λ p a1. then-own _ _ (parameters-own turns a1) (λ ps a2. read)))
 
   call-own : (at : Place) → Own (callAt b at)
@@ -77,4 +76,4 @@ own-of asked m (refused n) (number f) e = let g : n ≡ m = cc in rw g at f
 
 pub refused-by-own : RefusedByOwn
 unfolding rpcOf
-refused-by-own b asked n e = own-of asked n (callAfter b (allHeaders b)) (after-own b (allHeaders b)) e
+refused-by-own b asked n e = own-of asked n (callAfter (bodySource b) (allHeaders b)) (after-own (bodySource b) (allHeaders b)) e

@@ -9,7 +9,7 @@ use lib.Dec.{eqb, leb, eqb·zero-suc, eqb·suc-zero, eqb·suc-suc}
 use lib.ListN.{length, length-append}
 use borrow.Author.Tests.{le-leb, lt-leb, leb-false}
 use Rattle.wire.proofs.Cases.{by-test}
-use Rattle.payload.specs.Places.{Place, Read, whole, refused, then}
+use Rattle.payload.specs.Places.{Source, Place, Read, whole, refused, then}
 use Rattle.payload.proofs.CodeReads.{clash, then-got, then-not, then-same, if-so, if-not}
 use Rattle.rpc.specs.declared.Parameter.{Parameter}
 use Rattle.rpc.specs.declared.ParameterAt.{ParameterAt}
@@ -34,7 +34,7 @@ pub after-after : (ps qs : List ParameterAt) (x : Read (List ParameterAt)) → a
 after-after ps qs (whole rs at) = ap (λ (l : List ParameterAt). whole l at) (sym (append-assoc ps qs rs))
 after-after ps qs (refused n) = refl
 
-module _ (b : List ℕ) where
+module _ (b : Source) where
   -- how the parameters go on from one
   abbrev onward : ℕ → Parameter → Place → Read (List ParameterAt)
   onward turns p to = then (parametersAt turns b to) (λ (ps : List ParameterAt) (end : Place). whole (record { parameter = p; next = to } ∷ ps) end)
@@ -48,20 +48,20 @@ module _ (b : List ℕ) where
       go (whole ps end) = refl
       go (refused n) = refl
 
-  turn : (turns : ℕ) (at : Place) → parametersAt (suc turns) b at ≡ cond (leb (length b) at) (whole [] at) (then (parameterAt b at) (onward turns))
+  turn : (turns : ℕ) (at : Place) → parametersAt (suc turns) b at ≡ cond (leb (length (b .bytes)) at) (whole [] at) (then (parameterAt b at) (onward turns))
   unfolding parametersAt
   turn turns at = refl
 
   -- a run that has enough turns does not depend on how many
-  enough : (k j : ℕ) (at : Place) → length b - at < k → length b - at < j → parametersAt k b at ≡ parametersAt j b at
+  enough : (k j : ℕ) (at : Place) → length (b .bytes) - at < k → length (b .bytes) - at < j → parametersAt k b at ≡ parametersAt j b at
   enough zero j at hk hj = absurd (omega arith)
   enough (suc k) zero at hk hj = absurd (omega arith)
   enough (suc k) (suc j) at hk hj =
       turn k at
-      ∙ by-test (leb (length b) at)
+      ∙ by-test (leb (length (b .bytes)) at)
       (λ e. if-so _ _ e ∙ sym (if-so _ _ e))
       (λ e.
-      let l : at < length b = leb-false (length b) at e in
+      let l : at < length (b .bytes) = leb-false (length (b .bytes)) at e in
       if-not _ _ e
       ∙ then-same (parameterAt b at) (onward k) (onward j) (λ p to f.
       let m = parameter-onward b at f in
@@ -70,18 +70,18 @@ module _ (b : List ℕ) where
       ∙ sym (turn j at)
 
   -- from a parameter, from the end, and from a refusal
-  pub goes-on : (at : Place) (q : ParameterAt) → at < length b → parameterAt b at ≡ whole (q .parameter) (q .next)
-      → parametersAt (suc (length b)) b at ≡ after (q ∷ []) (parametersAt (suc (length b)) b (q .next))
+  pub goes-on : (at : Place) (q : ParameterAt) → at < length (b .bytes) → parameterAt b at ≡ whole (q .parameter) (q .next)
+      → parametersAt (suc (length (b .bytes))) b at ≡ after (q ∷ []) (parametersAt (suc (length (b .bytes))) b (q .next))
   goes-on at q l e =
       let m = parameter-onward b at e in
-      turn (length b) at ∙ if-not _ _ (lt-leb (length b) at l) ∙ then-got (onward (length b)) e ∙ onward-is (length b) (q .parameter) (q .next)
-      ∙ ap (after (q ∷ [])) (enough (length b) (suc (length b)) (q .next) (omega arith) (omega arith))
+      turn (length (b .bytes)) at ∙ if-not _ _ (lt-leb (length (b .bytes)) at l) ∙ then-got (onward (length (b .bytes))) e ∙ onward-is (length (b .bytes)) (q .parameter) (q .next)
+      ∙ ap (after (q ∷ [])) (enough (length (b .bytes)) (suc (length (b .bytes))) (q .next) (omega arith) (omega arith))
 
-  pub ends : (at : Place) → length b ≤ at → parametersAt (suc (length b)) b at ≡ whole [] at
-  ends at l = turn (length b) at ∙ if-so _ _ (le-leb (length b) at l)
+  pub ends : (at : Place) → length (b .bytes) ≤ at → parametersAt (suc (length (b .bytes))) b at ≡ whole [] at
+  ends at l = turn (length (b .bytes)) at ∙ if-so _ _ (le-leb (length (b .bytes)) at l)
 
-  pub breaks : (at n : ℕ) → at < length b → parameterAt b at ≡ refused n → parametersAt (suc (length b)) b at ≡ refused n
-  breaks at n l e = turn (length b) at ∙ if-not _ _ (lt-leb (length b) at l) ∙ then-not (onward (length b)) e
+  pub breaks : (at n : ℕ) → at < length (b .bytes) → parameterAt b at ≡ refused n → parametersAt (suc (length (b .bytes))) b at ≡ refused n
+  breaks at n l e = turn (length (b .bytes)) at ∙ if-not _ _ (lt-leb (length (b .bytes)) at l) ∙ then-not (onward (length (b .bytes))) e
 
 -- ---- what is answered of one parameter more
 
@@ -105,16 +105,16 @@ kept false false seen q e = refl
 
 -- ---- the walk: parameters were passed from start up to a place
 
-pub record Walked (b : List ℕ) (start number at count : ℕ) (seen : Seen) : Type 0 where
+pub record Walked (b : Source) (start number at count : ℕ) (seen : Seen) : Type 0 where
   pub passed : List ParameterAt
-  pub left : parametersAt (suc (length b)) b start ≡ after passed (parametersAt (suc (length b)) b at)
+  pub left : parametersAt (suc (length (b .bytes))) b start ≡ after passed (parametersAt (suc (length (b .bytes))) b at)
   pub counted : count ≡ length passed
   pub below : count ≤ at
   pub answers : seen ≡ seenIn number passed
 
-module _ (b : List ℕ) (start number : ℕ) where
+module _ (b : Source) (start number : ℕ) where
   abbrev turns : ℕ
-  turns = suc (length b)
+  turns = suc (length (b .bytes))
 
   pub begins : Walked b start number start 0 (record { asked = asked.Missing; first = statement.Missing })
   unfolding askedIn
@@ -122,7 +122,7 @@ module _ (b : List ℕ) (start number : ℕ) where
 
   module _ {at count : ℕ} {seen : Seen} (w : Walked b start number at count seen) where
     -- over a parameter
-    pub moves : (q : ParameterAt) → at < length b → parameterAt b at ≡ whole (q .parameter) (q .next)
+    pub moves : (q : ParameterAt) → at < length (b .bytes) → parameterAt b at ≡ whole (q .parameter) (q .next)
         → Walked b start number (q .next) (count + 1) (seenWith seen (eqb count number) (eqb count 0) q)
     moves q l e =
         let onto = parameter-onward b at e in
@@ -135,13 +135,13 @@ module _ (b : List ℕ) (start number : ℕ) where
         }
 
     -- the same of one that is neither asked for nor the first, of which nothing is kept
-    pub passes : (q : ParameterAt) → at < length b → parameterAt b at ≡ whole (q .parameter) (q .next) → (eqb count number || eqb count 0) ≡ false
+    pub passes : (q : ParameterAt) → at < length (b .bytes) → parameterAt b at ≡ whole (q .parameter) (q .next) → (eqb count number || eqb count 0) ≡ false
         → Walked b start number (q .next) (count + 1) seen
     passes q l e f = rw (kept (eqb count number) (eqb count 0) seen q f) at (moves q l e)
 
     -- to the end, and to a refusal
-    pub stops : length b ≤ at → parameters.Whole seen ≡ parametersRead number (parametersAt turns b start)
+    pub stops : length (b .bytes) ≤ at → parameters.Whole seen ≡ parametersRead number (parametersAt turns b start)
     stops l = sym (ap (parametersRead number) (w .left ∙ ap (after (w .passed)) (ends b at l)) ∙ rw (append-nil, w .answers))
 
-    pub falls : (n : ℕ) → at < length b → parameterAt b at ≡ refused n → parameters.Refused n ≡ parametersRead number (parametersAt turns b start)
+    pub falls : (n : ℕ) → at < length (b .bytes) → parameterAt b at ≡ refused n → parameters.Refused n ≡ parametersRead number (parametersAt turns b start)
     falls n l e = sym (ap (parametersRead number) (w .left ∙ ap (after (w .passed)) (breaks b at n l e)))

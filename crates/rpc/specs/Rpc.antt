@@ -13,7 +13,7 @@ use Rattle.packet.specs.Status.{hasBit}
 use Rattle.request.specs.Headers.{allHeaders}
 use Rattle.request.specs.declared.Headers.{Headers}
 use Rattle.request.specs.declared.Headers.the-variants.{Length, Short, PastEnd}
-use Rattle.payload.specs.Places.{Place, Read, whole, refused, numberAt, partAt, must, then, partTo}
+use Rattle.payload.specs.Places.{Source, bodySource, Place, Read, whole, refused, numberAt, partAt, must, then, partTo}
 use Rattle.cells.specs.declared.Value.{Value}
 use Rattle.cells.specs.declared.Value.the-variants as value
 use Rattle.cells.specs.Cells.{typeAt, cellAt}
@@ -50,64 +50,64 @@ inValue n = parameterCut
 -- ---- the head
 
 -- NameLenProcID: the length FFFF and a number, or a name's length in units and the name
-unfoldable pub procedureAt : List ℕ → Place → Read Procedure
-procedureAt body at =
-    numberAt 2 body at λ n a1.
+unfoldable pub procedureAt : Source → Place → Read Procedure
+procedureAt src at =
+    numberAt 2 src at λ n a1.
     cond (eqb n 0xFFFF)
-    (numberAt 2 body a1 λ number a2. whole (Number number) a2)
-    (partAt (2 * n) body a1 λ name a2. whole (Name name) a2)
+    (numberAt 2 src a1 λ number a2. whole (Number number) a2)
+    (partAt (2 * n) src a1 λ name a2. whole (Name name) a2)
 
 -- NameLenProcID and OptionFlags
-unfoldable pub headAt : List ℕ → Place → Read Head
-headAt body at =
-    then (procedureAt body at) λ procedure a1.
-    numberAt 2 body a1 λ flags a2.
+unfoldable pub headAt : Source → Place → Read Head
+headAt src at =
+    then (procedureAt src at) λ procedure a1.
+    numberAt 2 src a1 λ flags a2.
     whole (record { procedure = procedure; flags = flags }) a2
 
 -- ---- a parameter
 
 -- its name: the length in units and the name. FE and FF are no lengths: after these marks (NoExecFlag, BatchFlag) a second call follows
-unfoldable pub nameAt : List ℕ → Place → Read Part
-nameAt body at =
-    numberAt 1 body at λ n a1.
+unfoldable pub nameAt : Source → Place → Read Part
+nameAt src at =
+    numberAt 1 src at λ n a1.
     must (not (eqb n 0xFE || eqb n 0xFF)) innerWrong
-    (partAt (2 * n) body a1 whole)
+    (partAt (2 * n) src a1 whole)
 
 -- StatusFlags: with bit 08 (fEncrypted) it is not read
-unfoldable pub statusAt : List ℕ → Place → Read ℕ
-statusAt body at =
-    numberAt 1 body at λ status a1.
+unfoldable pub statusAt : Source → Place → Read ℕ
+statusAt src at =
+    numberAt 1 src at λ status a1.
     must (not (hasBit 0x08 status)) innerWrong
     (whole status a1)
 
 -- ParamMetaData: name, StatusFlags, TYPE_INFO
-unfoldable pub metadataAt : List ℕ → Place → Read Metadata
-metadataAt body at =
-    then (nameAt body at) λ name a1.
-    then (statusAt body a1) λ status a2.
-    then (typeAt body a2) λ info a3.
+unfoldable pub metadataAt : Source → Place → Read Metadata
+metadataAt src at =
+    then (nameAt src at) λ name a1.
+    then (statusAt src a1) λ status a2.
+    then (typeAt src a2) λ info a3.
     whole (record { name = name; status = status; info = info }) a3
 
 -- a value after its metadata: it is read as a cell of a column of its type
-unfoldable pub valueAt : List ℕ → Place → Metadata → Read Parameter
-valueAt body at meta =
-    then (renamed inValue (cellAt (meta .info .code) (meta .info .limit) body at)) λ value a1.
+unfoldable pub valueAt : Source → Place → Metadata → Read Parameter
+valueAt src at meta =
+    then (renamed inValue (cellAt (meta .info .code) (meta .info .limit) src at)) λ value a1.
     whole (record { name = meta .name; status = meta .status; info = meta .info; value = value }) a1
 
 -- ParamMetaData and the value
-unfoldable pub parameterAt : List ℕ → Place → Read Parameter
-parameterAt body at =
-    then (renamed inMetadata (metadataAt body at)) λ meta a1.
-    valueAt body a1 meta
+unfoldable pub parameterAt : Source → Place → Read Parameter
+parameterAt src at =
+    then (renamed inMetadata (metadataAt src at)) λ meta a1.
+    valueAt src a1 meta
 
 -- the parameters from a place up to the body's end, each with the place after it. A parameter is a byte or more, so that one turn more
 -- than the body has bytes is enough
-unfoldable pub parametersAt : ℕ → List ℕ → Place → Read (List ParameterAt)
-parametersAt zero body at = refused parameterCut
-parametersAt (suc turns) body at =
-    cond (leb (length body) at) (whole [] at)
-    (then (parameterAt body at) λ p a1.
-    then (parametersAt turns body a1) λ ps a2.
+unfoldable pub parametersAt : ℕ → Source → Place → Read (List ParameterAt)
+parametersAt zero src at = refused parameterCut
+parametersAt (suc turns) src at =
+    cond (leb (length (src .bytes)) at) (whole [] at)
+    (then (parameterAt src at) λ p a1.
+    then (parametersAt turns src a1) λ ps a2.
     whole (record { parameter = p; next = a1 } ∷ ps) a2)
 
 -- ---- a call
@@ -128,18 +128,18 @@ pub record Sent : Type 0 where
   pub parameters : List ParameterAt
 
 -- the call from a place on; one that runs a statement has it
-unfoldable pub callAt : List ℕ → Place → Read Sent
-callAt body at =
-    then (renamed inHead (headAt body at)) λ head a1.
-    then (parametersAt (suc (length body)) body a1) λ ps a2.
+unfoldable pub callAt : Source → Place → Read Sent
+callAt src at =
+    then (renamed inHead (headAt src at)) λ head a1.
+    then (parametersAt (suc (length (src .bytes))) src a1) λ ps a2.
     must (not (runsStatement (head .procedure) && isEmpty ps)) parameterCut
     (whole (record { head = head; parameters = ps }) a2)
 
 -- the call after the headers, which are skipped as in batches
-abbrev pub callAfter : List ℕ → Headers → Read Sent
-callAfter body Short = refused callCut
-callAfter body PastEnd = refused callCut
-callAfter body (Length n) = callAt body n
+abbrev pub callAfter : Source → Headers → Read Sent
+callAfter src Short = refused callCut
+callAfter src PastEnd = refused callCut
+callAfter src (Length n) = callAt src n
 
 -- ---- what is answered
 
@@ -179,4 +179,4 @@ told number (refused n) = rpc.Refused n
 
 -- what a request answers where the parameter of a number is asked for
 unfoldable pub rpcOf : List ℕ → ℕ → Rpc
-rpcOf body number = told number (callAfter body (allHeaders body))
+rpcOf body number = told number (callAfter (bodySource body) (allHeaders body))

@@ -8,6 +8,8 @@ use cells::cell_at;
 use cells::type_at;
 use payload::NumberRead;
 use payload::PartRead;
+use payload::frames;
+use payload::frames::Frame;
 use payload::minus;
 use payload::part_at;
 use payload::u8_at;
@@ -25,7 +27,8 @@ ghost use Prim.Native.Nat.{suc};
 ghost use lib.Dec.{eqb};
 ghost use lib.ListN.{length};
 ghost use Rattle.packet.specs.Status.{hasBit};
-ghost use Rattle.payload.specs.Places.{partTo};
+ghost use Rattle.payload.specs.Places.{bodySource, partTo};
+ghost use Rattle.payload.specs.Frames.{sourceFrom};
 ghost use Rattle.payload.specs.Answers.{numberRead, partRead, Below};
 ghost use Rattle.rpc.specs.Rpc.{inMetadata, procedureAt, headAt, nameAt, statusAt, metadataAt, valueAt, parameterAt, parametersAt, runsStatement, callAt, valueBytes, told, rpcOf};
 ghost use Rattle.rpc.specs.Answers.{procedureRead, headRead, metadataRead, parameterRead, parametersRead, seenWith, toldOf};
@@ -97,9 +100,10 @@ pub fn parse_rpc_request(body: &[u8], number: usize) -> Rpc
 
 // The call from a place on.
 fn call_at(body: &[u8], at: usize, number: usize) -> Rpc
-    ensures { λ r. ⌜ r ≡ told number (callAt (now (body .entry)) at) ⌝ }
+    ensures { λ r. ⌜ r ≡ told number (callAt (bodySource (now (body .entry))) at) ⌝ }
 {
-    match head_at(body, at) {
+    let frame = frames::body(body);
+    match head_at(body, frame, at) {
         HeadRead::Refused(_) => Rpc::Refused(CALL_CUT),
         HeadRead::Whole(head, next) => match parameters_at(body, next, number) {
             ParametersRead::Refused(n) => Rpc::Refused(n),
@@ -162,12 +166,12 @@ enum ProcedureRead {
     Refused(u8),
 }
 
-fn head_at(body: &[u8], at: usize) -> HeadRead
-    ensures { λ r. ⌜ r ≡ headRead (headAt (now (body .entry)) at) ⌝ }
+fn head_at(body: &[u8], frame: Frame, at: usize) -> HeadRead
+    ensures { λ r. ⌜ r ≡ headRead (headAt (sourceFrom (now (body .entry)) frame) at) ⌝ }
 {
-    match procedure_at(body, at) {
+    match procedure_at(body, frame, at) {
         ProcedureRead::Refused(n) => HeadRead::Refused(n),
-        ProcedureRead::Whole(procedure, next) => match u16_at(body, next) {
+        ProcedureRead::Whole(procedure, next) => match u16_at(body, frame, next) {
             NumberRead::Refused(n) => HeadRead::Refused(n),
             NumberRead::Whole(flags) => HeadRead::Whole(
                 Head {
@@ -181,22 +185,22 @@ fn head_at(body: &[u8], at: usize) -> HeadRead
 }
 
 // A name after its length in units, or a number after the length that stands for none.
-fn procedure_at(body: &[u8], at: usize) -> ProcedureRead
-    ensures { λ r. ⌜ r ≡ procedureRead (procedureAt (now (body .entry)) at) ⌝ }
+fn procedure_at(body: &[u8], frame: Frame, at: usize) -> ProcedureRead
+    ensures { λ r. ⌜ r ≡ procedureRead (procedureAt (sourceFrom (now (body .entry)) frame) at) ⌝ }
 {
-    let units = match u16_at(body, at) {
+    let units = match u16_at(body, frame, at) {
         NumberRead::Refused(n) => return ProcedureRead::Refused(n),
         NumberRead::Whole(n) => n,
     };
     if units.value == BY_NUMBER {
-        return match u16_at(body, units.next) {
+        return match u16_at(body, frame, units.next) {
             NumberRead::Refused(n) => ProcedureRead::Refused(n),
             NumberRead::Whole(n) => {
                 ProcedureRead::Whole(Procedure::Number(n.value as u16), n.next)
             },
         };
     }
-    match part_at(body, units.next, 2 * (units.value as usize)) {
+    match part_at(body, frame, units.next, 2 * (units.value as usize)) {
         PartRead::Refused(n) => ProcedureRead::Refused(n),
         PartRead::Whole(name) => {
             let part = name.part;
@@ -220,8 +224,9 @@ enum ParametersRead {
 
 // The parameters from a place up to the body's end. Of those that are neither asked for nor the first, nothing is kept.
 fn parameters_at(body: &[u8], start: usize, number: usize) -> ParametersRead
-    ensures { λ r. ⌜ r ≡ parametersRead number (parametersAt (suc (length (now (body .entry)))) (now (body .entry)) start) ⌝ }
+    ensures { λ r. ⌜ r ≡ parametersRead number (parametersAt (suc (length (now (body .entry)))) (bodySource (now (body .entry))) start) ⌝ }
 {
+    let frame = frames::body(body);
     let mut at = start;
     let mut count = 0;
     let mut seen = Seen {
@@ -229,7 +234,7 @@ fn parameters_at(body: &[u8], start: usize, number: usize) -> ParametersRead
         first: Statement::Missing,
     };
     while at < body.len() {
-        match parameter_at(body, at) {
+        match parameter_at(body, frame, at) {
             ParameterRead::Refused(n) => {
                 return ParametersRead::Refused(n);
             },
@@ -329,21 +334,21 @@ enum MetadataRead {
 }
 
 // The parameter at a place. Its value is read as a cell of a column of its type.
-fn parameter_at(body: &[u8], at: usize) -> ParameterRead
-    ensures { λ r. ⌜ r ≡ parameterRead (parameterAt (now (body .entry)) at) ⌝ }
+fn parameter_at(body: &[u8], frame: Frame, at: usize) -> ParameterRead
+    ensures { λ r. ⌜ r ≡ parameterRead (parameterAt (sourceFrom (now (body .entry)) frame) at) ⌝ }
 {
-    match metadata_at(body, at) {
+    match metadata_at(body, frame, at) {
         MetadataRead::Refused(n) => ParameterRead::Refused(in_metadata(n)),
-        MetadataRead::Whole(metadata, next) => value_at(body, next, metadata),
+        MetadataRead::Whole(metadata, next) => value_at(body, frame, next, metadata),
     }
 }
 
-fn value_at(body: &[u8], at: usize, metadata: Metadata) -> ParameterRead
-    ensures { λ r. ⌜ r ≡ parameterRead (valueAt (now (body .entry)) at metadata) ⌝ }
+fn value_at(body: &[u8], frame: Frame, at: usize, metadata: Metadata) -> ParameterRead
+    ensures { λ r. ⌜ r ≡ parameterRead (valueAt (sourceFrom (now (body .entry)) frame) at metadata) ⌝ }
 {
     let name = metadata.name;
     let info = metadata.info;
-    match cell_at(body, at, info.code, info.limit) {
+    match cell_at(body, frame, at, info.code, info.limit) {
         CellRead::Refused(_) => ParameterRead::Refused(PARAMETER_CUT),
         CellRead::Whole(value, next) => ParameterRead::Whole(ParameterAt {
             parameter: Parameter {
@@ -368,18 +373,18 @@ fn in_metadata(n: u8) -> u8
     }
 }
 
-fn metadata_at(body: &[u8], at: usize) -> MetadataRead
-    ensures { λ r. ⌜ r ≡ metadataRead (metadataAt (now (body .entry)) at) ⌝ }
+fn metadata_at(body: &[u8], frame: Frame, at: usize) -> MetadataRead
+    ensures { λ r. ⌜ r ≡ metadataRead (metadataAt (sourceFrom (now (body .entry)) frame) at) ⌝ }
 {
-    let name = match name_at(body, at) {
+    let name = match name_at(body, frame, at) {
         PartRead::Refused(n) => return MetadataRead::Refused(n),
         PartRead::Whole(part) => part,
     };
-    let status = match status_at(body, name.next) {
+    let status = match status_at(body, frame, name.next) {
         NumberRead::Refused(n) => return MetadataRead::Refused(n),
         NumberRead::Whole(n) => n,
     };
-    match type_at(body, status.next) {
+    match type_at(body, frame, status.next) {
         TypeRead::Refused(n) => MetadataRead::Refused(n),
         TypeRead::Whole(read) => {
             let part = name.part;
@@ -397,17 +402,17 @@ fn metadata_at(body: &[u8], at: usize) -> MetadataRead
 }
 
 // A parameter's name, after its length in units.
-fn name_at(body: &[u8], at: usize) -> PartRead
-    ensures { λ r. ⌜ r ≡ partRead (nameAt (now (body .entry)) at) ⌝ }
+fn name_at(body: &[u8], frame: Frame, at: usize) -> PartRead
+    ensures { λ r. ⌜ r ≡ partRead (nameAt (sourceFrom (now (body .entry)) frame) at) ⌝ }
 {
-    let units = match u8_at(body, at) {
+    let units = match u8_at(body, frame, at) {
         NumberRead::Refused(n) => return PartRead::Refused(n),
         NumberRead::Whole(n) => n,
     };
     if begins_call(units.value) {
         return PartRead::Refused(INNER_WRONG);
     }
-    part_at(body, units.next, 2 * (units.value as usize))
+    part_at(body, frame, units.next, 2 * (units.value as usize))
 }
 
 // Whether a byte where a name would begin says that a second call follows.
@@ -418,10 +423,10 @@ fn begins_call(byte: u64) -> bool
 }
 
 // A parameter's status, which is not read where it says that the parameter is encrypted.
-fn status_at(body: &[u8], at: usize) -> NumberRead
-    ensures { λ r. ⌜ (r ≡ numberRead (statusAt (now (body .entry)) at)) × Below 1 r ⌝ }
+fn status_at(body: &[u8], frame: Frame, at: usize) -> NumberRead
+    ensures { λ r. ⌜ (r ≡ numberRead (statusAt (sourceFrom (now (body .entry)) frame) at)) × Below 1 r ⌝ }
 {
-    let status = match u8_at(body, at) {
+    let status = match u8_at(body, frame, at) {
         NumberRead::Refused(n) => return NumberRead::Refused(n),
         NumberRead::Whole(n) => n,
     };

@@ -1,7 +1,7 @@
 -- How long replies are: the bytes that a builder wrote, and room for a reply, are numbers that an i64 holds. Assumes nothing.
 use Prim.Native.Nat.{ℕ, zero, suc, _+_, _^_, _<_, _≤_}
 use mathlib.Core.Path.{_≡_, refl, sym, _∙_}
-use mathlib.Core.Bool.{Bool, true, false, not, _&&_}
+use mathlib.Core.Bool.{true, not, _&&_}
 use mathlib.Core.List.{List}
 use native.Mathlib.Omega.{arith}
 use lib.Dec.{eqb, ltb, leb}
@@ -12,10 +12,12 @@ use mir.Syntax.{w64}
 use mir.Val.{toZ, ofZ}
 use mir.Facts.{toZ-ofZ, toZ-pos}
 use borrow.Author.Tests.{ltb-false, leb-true, eqb-true, eqb-false, not-true}
-use Rattle.script.specs.Verdict.{verdictOf}
-use Rattle.emission.specs.Emission.{pieces, replyOf}
-use Rattle.emission.specs.Refusal.{faultIn, refusalOf}
-use Rattle.result.specs.Built.{builtOf}
+use Rattle.emission.specs.Emission.{replyOf}
+use Rattle.emission.specs.Refusal.{refusalOf}
+use Rattle.packet.specs.Agreed.{isPacketSize}
+use Rattle.packet.proofs.Counts.{both}
+use Rattle.result.specs.Built.{fitted, builtOf, repliesOf, builtInPackets}
+use Rattle.result.proofs.InPackets.{not-long}
 use Rattle.result.specs.Room.{isRoom}
 use Rattle.result.specs.declared.Built.{Built}
 use Rattle.result.specs.declared.Built.the-variants.{Written, Refused}
@@ -29,38 +31,32 @@ abbrev Within : ℕ → Built → Type 0
 Within n (Written k) = k ≤ n
 Within n (Refused k) = n ≡ n
 
+fits-within : (bytes : List ℕ) (n : ℕ) → Within n (fitted bytes n)
+fits-within bytes n = by-test (ltb n (length bytes)) (λ l. rw l refl) (λ l. rw l (ltb-false n (length bytes) l))
+
 within : (s : List ℕ) (n : ℕ) → Within n (builtOf s n)
 unfolding builtOf
-within s n =
-    by-test (eqb (refusalOf s) 0)
-    (λ t. by-test (ltb n (length (replyOf s))) (λ l. rw (t, l) refl) (λ l. rw (t, l) (ltb-false n (length (replyOf s)) l)))
-    (λ t. rw t refl)
+within s n = by-test (eqb (refusalOf s) 0) (λ t. rw t (fits-within (replyOf s) n)) (λ t. rw t refl)
+
+within-packets : (size : ℕ) (s : List ℕ) (n : ℕ) → Within n (builtInPackets size s n)
+unfolding builtInPackets
+within-packets size s n =
+    by-test (isPacketSize size)
+    (λ o. by-test (eqb (refusalOf s) 0) (λ t. rw (o, t) (fits-within (repliesOf size s) n)) (λ t. rw (o, t) refl))
+    (λ o. rw o refl)
 
 pub lies-within : (s : List ℕ) (n : ℕ) {b : Built} → b ≡ builtOf s n → Within n b
 lies-within s n e = rw e (within s n)
 
--- the reply of a script that is not refused
-reply-short : (s : List ℕ) → refusalOf s ≡ 0 → length (replyOf s) ≤ 65535
-unfolding refusalOf
-reply-short s e =
-    by-test (eqb (verdictOf s) 0)
-    (λ v. by-test (eqb (faultIn (pieces s)) 0)
-    (λ f. by-test (ltb 65535 (length (replyOf s)))
-    (λ l. let z : _≡_ {A = ℕ} 17 0 = rw (v, f, l) at e in absurd (omega arith))
-    (λ l. ltb-false 65535 (length (replyOf s)) l))
-    (λ f. absurd (eqb-false (faultIn (pieces s)) 0 f (rw (v, f) at e))))
-    (λ v. absurd (eqb-false (verdictOf s) 0 v (rw v at e)))
-
-both : (a b : Bool) → a && b ≡ true → (a ≡ true) × (b ≡ true)
-both true b e = (refl, e)
-both false b e = let z : _≡_ {A = ℕ} 0 1 = cc in absurd (omega arith)
+pub packets-within : (size : ℕ) (s : List ℕ) (n : ℕ) {b : Built} → b ≡ builtInPackets size s n → Within n b
+packets-within size s n e = rw e (within-packets size s n)
 
 -- room for it
 pub room-short : (s : List ℕ) (n : ℕ) → isRoom s (Bytes n) ≡ true → n ≤ 65567
 room-short s n e =
     let h = both (eqb (refusalOf s) 0 && leb (length (replyOf s)) n) _ e in
     let g = both (eqb (refusalOf s) 0) _ (h .0) in
-    omega (arith, leb-true n (length (replyOf s) + 32) (h .1), reply-short s (eqb-true (refusalOf s) 0 (g .0)))
+    omega (arith, leb-true n (length (replyOf s) + 32) (h .1), not-long s (eqb-true (refusalOf s) 0 (g .0)))
 
 -- as the number of an i64
 pub room-told : (s : List ℕ) (n : ℕ) → isRoom s (Bytes n) ≡ true → isRoom s (roomTold (toZ w64 n)) ≡ true

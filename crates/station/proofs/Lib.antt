@@ -5,5 +5,7 @@ pub mod Lengths
 pub mod Builds
 pub mod Twos
 pub mod Stepping
+pub mod TypeSlots
 pub mod Typed
 pub mod Lasting
+pub mod Joins

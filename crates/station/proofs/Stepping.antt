@@ -1,43 +1,51 @@
 -- How the reply reader's step ends for C: the answer, the position's slots and out, for each way. Assumes nothing.
-use Prim.Native.Nat.{ℕ, zero, suc, _+_, _-_, _/_, _%_, _^_, _≤_, _<_, min}
+use Prim.Native.Nat.{ℕ, zero, suc, _+_, _-_, _%_, _^_, _≤_, _<_}
 use mathlib.Core.Path.{_≡_, refl, sym, ap, _∙_}
+use mathlib.Core.Bool.{Bool, true, false, true≢false, cond}
 use mathlib.Core.List.{List}
 use native.Mathlib.Omega.{arith}
 use native.Mathlib.Decide.{decLe}
 use native.Mathlib.Nat.{lt-of-not-le}
-use lib.Seq.{getD-set-same, getD-set-other, ext-getD}
-use lib.ListN.{length, getD, set, length-set, getD-replicate, List·getD-eq-default}
+use lib.Dec.{ltb}
+use lib.Seq.{getD-set-same, getD-set-other}
+use lib.ListN.{length, getD, set, length-set, List·getD-eq-default}
 use lib.IntN.{ℤ}
-use lib.Bits.{bitOr, or-add-and, and-le-l, and-le-r}
 use lib.Signed.{mag}
 use mir.Syntax.{w64}
 use mir.Val.{toZ, ofZ}
 use borrow.Author.Tests.{lt-ltb, le-ltb}
 use Rattle.wire.specs.Over.{overwrite}
 use Rattle.wire.proofs.Cases.{by-test}
-use Rattle.packet.specs.declared.Parsed.{Parsed}
-use Rattle.packet.specs.declared.Parsed.the-variants as parsed
-use Rattle.packet.specs.Header.{parsedOf}
-use Rattle.cells.specs.declared.Value.{Value}
+use Rattle.payload.specs.Packets.{packetsIn}
+use Rattle.payload.specs.Positions as positions
+use Rattle.payload.specs.Positions.{Placed, placeIn}
 use Rattle.cells.specs.declared.Value.the-variants as value
 use Rattle.reader.specs.declared.Answer.{Answer}
 use Rattle.reader.specs.declared.Answer.the-variants as answer
+use Rattle.reader.specs.declared.Got.{Got}
+use Rattle.reader.specs.declared.Got.the-variants as got
+use Rattle.reader.specs.declared.HeldTypes.{HeldTypes}
 use Rattle.reader.specs.declared.Position.{Position}
+use Rattle.reader.specs.declared.Spot.{Spot}
 use Rattle.reader.specs.declared.Step.{Step}
 use Rattle.reader.specs.declared.Token.{Token}
 use Rattle.reader.specs.declared.Token.the-variants.{ColMetadata, Column, Row, Cell, Done, Message}
-use Rattle.reader.specs.Positions.{stands}
-use Rattle.reader.specs.Reader.{refusedAt, afterHeader, isReply, stepOf}
-use Rattle.reader.proofs.CodePositions.{standing}
-use Rattle.reader.proofs.Alike.{OneSpot, Alike, step-alike}
+use Rattle.cells.specs.Cells.{isType}
+use Rattle.reader.specs.Positions.{held, stands, after}
+use Rattle.reader.specs.Reader.{stepFrom, stepOf}
+use Rattle.reader.specs.Spots.{spotOf, heldIn, spotAfter, stepBy, gotOf}
+use Rattle.reader.proofs.CodeSteps.{stepped}
+use Rattle.reader.proofs.CodeSpots.{after-spot}
+use Rattle.reader.proofs.CodePositions.{held-next, held-each, held-past, standing}
 use Rattle.station.specs.Answer.{answers, refuses, numberOf, answerOf, slotsOf}
-use Rattle.station.specs.Steps.{codeOf, lengthOf, firstOf, positionTo, heldOf, tokenSlots, stepOutcome, stepCall, spotSlots, withType, slotsAfter, positionLeft}
+use Rattle.station.specs.Steps.{codeOf, lengthOf, firstOf, positionOf, tokenSlots, stepOutcome, stepCall, spotSlots, withType, slotsAfter, positionLeft}
 use Rattle.station.proofs.Ends.{Ended, stopped, too-few}
+use Rattle.station.proofs.TypeSlots.{no-code}
 
 -- ---- a position in slots
 
 -- one turn of the loop that reads types
-pub first-next : (f : ℕ → ℕ) (n : ℕ) (slots : List ℕ) → firstOf f (n + 1) slots ≡ set (firstOf f n slots) n (f (getD slots (5 + n) 0))
+pub first-next : (f : ℕ → ℕ) (n : ℕ) (slots : List ℕ) → firstOf f (n + 1) slots ≡ set (firstOf f n slots) n (f (getD slots (6 + n) 0))
 unfolding firstOf
 first-next f n slots = let e : n + 1 ≡ suc n = omega arith in ap (λ (k : ℕ). firstOf f k slots) e
 
@@ -47,7 +55,7 @@ first-length f zero slots = refl
 first-length f (suc n) slots = length-set (firstOf f n slots) n _ ∙ first-length f n slots
 
 -- the values that were read
-pub first-at : (f : ℕ → ℕ) (n i : ℕ) (slots : List ℕ) → i < n → n ≤ 128 → getD (firstOf f n slots) i 0 ≡ f (getD slots (5 + i) 0)
+pub first-at : (f : ℕ → ℕ) (n i : ℕ) (slots : List ℕ) → i < n → n ≤ 128 → getD (firstOf f n slots) i 0 ≡ f (getD slots (6 + i) 0)
 unfolding firstOf
 first-at f zero i slots h k = absurd (omega arith)
 first-at f (suc n) i slots h k =
@@ -55,40 +63,6 @@ first-at f (suc n) i slots h k =
       | yes l ↦ let e : i ≡ n = omega arith in rw e (getD-set-same (firstOf f n slots) n _ 0 (rw (first-length f n slots) (omega arith)))
       | no l ↦ let g : i < n = lt-of-not-le l in getD-set-other (firstOf f n slots) n i _ 0 (λ (q : i ≡ n). omega arith) ∙ first-at f n i slots g (omega arith)
     ]
-
--- those that were not are 0
-first-past : (f : ℕ → ℕ) (n i : ℕ) (slots : List ℕ) → n ≤ i → i < 128 → getD (firstOf f n slots) i 0 ≡ 0
-unfolding firstOf
-first-past f zero i slots h k = getD-replicate 128 i 0 0 k
-first-past f (suc n) i slots h k = getD-set-other (firstOf f n slots) n i _ 0 (λ (q : i ≡ n). omega arith) ∙ first-past f n i slots (omega arith) k
-
--- where every slot from 5 + n on is not there, all values are those of their slots
-first-each : (f : ℕ → ℕ) (n i : ℕ) (slots : List ℕ) → f 0 ≡ 0 → length slots ≤ 5 + n → n ≤ 128 → i < 128 → getD (firstOf f n slots) i 0 ≡ f (getD slots (5 + i) 0)
-first-each f n i slots e s h k =
-    elim (decLe n i) [
-      | yes l ↦ first-past f n i slots l k ∙ sym (ap f (List·getD-eq-default slots 0 {n = 5 + i} (omega arith)) ∙ e)
-      | no l ↦ first-at f n i slots (lt-of-not-le l) h
-    ]
-
--- so only the slots that are there need be read
-pub first-lent : (f : ℕ → ℕ) (n : ℕ) (slots : List ℕ) → f 0 ≡ 0 → n ≤ 128 → firstOf f (min n (length slots - 5)) slots ≡ firstOf f n slots
-first-lent f n slots e h =
-    elim (decLe n (length slots - 5)) [
-      | yes l ↦ let q : min n (length slots - 5) ≡ n = omega arith in ap (λ (k : ℕ). firstOf f k slots) q
-      | no l ↦ let m = min n (length slots - 5) in
-          ext-getD 0 (firstOf f m slots) (firstOf f n slots) (first-length f m slots ∙ sym (first-length f n slots))
-          (λ i g. let k : i < 128 = rw (first-length f m slots) at g in
-          first-each f m i slots e (omega arith) (omega arith) k ∙ sym (first-each f n i slots e (omega arith) h k))
-    ]
-
--- numbers are small where all their bits together are
-pub both-small : (a b k : ℕ) → bitOr a b < k → (a < k) × (b < k)
-both-small a b k h = (omega (arith, or-add-and a b, and-le-r a b), omega (arith, or-add-and a b, and-le-l a b))
-
--- the code of a slot that is a type's
-pub code-small : (slot : ℕ) → slot < 16777216 → slot / 65536 % 256 ≡ codeOf slot
-unfolding codeOf
-code-small slot h = let e : slot / 65536 ≡ slot / 65536 % 256 = omega arith in sym (simp (lt-ltb slot 16777216 h) e)
 
 pub code-none : codeOf 0 ≡ 0
 unfolding codeOf
@@ -98,21 +72,51 @@ pub length-none : lengthOf 0 ≡ 0
 unfolding lengthOf
 length-none = refl
 
--- at most 128 types are held
-pub held-few : (slots : List ℕ) → heldOf slots ≤ 128
-unfolding heldOf
-held-few slots = omega arith
-
--- the types that are not held make no difference to a step
-alike : (p slots : List ℕ) → Alike (stepOf p (positionTo (heldOf slots) slots)) (stepOf p (positionTo 128 slots))
-unfolding positionTo heldOf
-alike p slots =
-    let n = getD slots 1 0 - getD slots 2 0 in
-    elim (decLe n 128) [
-      | yes h ↦ let e : min n 128 ≡ n = omega arith in rw e (step-alike _ _ _ _ _ _ _ _ _ p
-          (λ i l. (first-at codeOf n i slots l h ∙ sym (first-at codeOf 128 i slots (omega arith) (omega arith)), first-at lengthOf n i slots l h ∙ sym (first-at lengthOf 128 i slots (omega arith) (omega arith)))))
-      | no h ↦ let e : min n 128 ≡ 128 = omega arith in rw e (refl, (refl, refl, refl, refl, refl))
+-- a column's value is that of its slot; one that has no slot has 0
+pub first-each : (f : ℕ → ℕ) (i : ℕ) (slots : List ℕ) → f 0 ≡ 0 → getD (firstOf f 128 slots) i 0 ≡ f (cond (ltb i 128) (getD slots (6 + i) 0) 0)
+first-each f i slots e =
+    elim (decLe 128 i) [
+      | yes l ↦ List·getD-eq-default (firstOf f 128 slots) 0 {n = i} (rw (first-length f 128 slots) l) ∙ sym (ap (λ b. f (cond b (getD slots (6 + i) 0) 0)) (le-ltb i 128 l) ∙ e)
+      | no l ↦ let h : i < 128 = lt-of-not-le l in first-at f 128 i slots h (omega arith) ∙ sym (ap (λ b. f (cond b (getD slots (6 + i) 0) 0)) (lt-ltb i 128 h))
     ]
+
+-- the test of the types in their slots: one turn, a slot that is none, slots that are not there
+module _ (slots : List ℕ) where
+  abbrev pub heldTo : ℕ → Bool
+  heldTo n = held n (firstOf codeOf 128 slots) (firstOf lengthOf 128 slots)
+
+  at-column : (i : ℕ) → i < 128 → isType (getD (firstOf codeOf 128 slots) i 0) (getD (firstOf lengthOf 128 slots) i 0) ≡ isType (codeOf (getD slots (6 + i) 0)) (lengthOf (getD slots (6 + i) 0))
+  at-column i h = rw (first-at codeOf 128 i slots h (omega arith), first-at lengthOf 128 i slots h (omega arith))
+
+  pub held-turn : (i : ℕ) → i < 128 → heldTo i ≡ true → isType (codeOf (getD slots (6 + i) 0)) (lengthOf (getD slots (6 + i) 0)) ≡ true → heldTo (i + 1) ≡ true
+  held-turn i h e k = held-next i (firstOf codeOf 128 slots) (firstOf lengthOf 128 slots) ∙ rw (at-column i h, k, e)
+
+  pub held-fails : (n i : ℕ) → i < n → i < 128 → isType (codeOf (getD slots (6 + i) 0)) (lengthOf (getD slots (6 + i) 0)) ≡ false → false ≡ heldTo n
+  held-fails n i h k e =
+      by-test (heldTo n)
+      (λ t. absurd (true≢false (sym (held-each n (firstOf codeOf 128 slots) (firstOf lengthOf 128 slots) i t h) ∙ at-column i k ∙ e)))
+      (λ t. sym t)
+
+  pub held-short : (n : ℕ) → n ≤ 128 → length slots - 6 < n → false ≡ heldTo n
+  held-short n h k =
+      let e : getD slots (6 + (n - 1)) 0 ≡ 0 = List·getD-eq-default slots 0 {n = 6 + (n - 1)} (omega arith) in
+      held-fails n (n - 1) (omega arith) (omega arith) (rw (e, code-none) (sym (no-code (lengthOf 0))))
+
+  pub held-over : (n : ℕ) → 128 < n → false ≡ heldTo n
+  held-over n h = sym (held-past n (firstOf codeOf 128 slots) (firstOf lengthOf 128 slots) (rw (first-length codeOf 128 slots) (omega arith)) h)
+
+-- what a step asks of the types, as it is found in the slots
+pub held-slots : (slots : List ℕ) {at : Spot} {i j slot code : ℕ} {sound : Bool} → at ≡ spotOf (positionOf slots) → j ≡ at .count - at .«cells_left»
+    → slot ≡ cond (ltb j 128) (getD slots (6 + j) 0) 0 → i ≡ at .count - at .«columns_left» → sound ≡ heldTo slots i → code ≡ codeOf slot
+    → record { sound = sound; code = code; limit = slot % 65536 } ≡ heldIn (positionOf slots)
+unfolding positionOf lengthOf
+held-slots slots {j} {slot} p q e r s c =
+    let column : j ≡ getD slots 1 0 - getD slots 3 0 = q ∙ ap (λ (a : Spot). a .count - a .«cells_left») p in
+    let sound' = s ∙ ap (heldTo slots) (r ∙ ap (λ (a : Spot). a .count - a .«columns_left») p) in
+    let code' = c ∙ ap codeOf e ∙ sym (first-each codeOf j slots code-none) ∙ ap (λ (k : ℕ). getD (firstOf codeOf 128 slots) k 0) column in
+    let limit' : slot % 65536 ≡ getD (firstOf lengthOf 128 slots) (getD slots 1 0 - getD slots 3 0) 0 =
+    ap lengthOf e ∙ sym (first-each lengthOf j slots length-none) ∙ ap (λ (k : ℕ). getD (firstOf lengthOf 128 slots) k 0) column in
+    rw (sound', code', limit')
 
 -- ---- a step that answers a token
 
@@ -121,17 +125,17 @@ tokens (answer.Token t) = 1
 tokens answer.End = 0
 tokens (answer.Refused n) = 0
 
--- a position that is refused answers none
-none : (h : Parsed) (n : ℕ) (pos : Position) → tokens (afterHeader h n pos (refusedAt pos 24) .answer) ≡ 0
-none (parsed.Refused r) n pos = refl
-none (parsed.Header h) n pos = by-test (isReply h n) (λ r. rw r refl) (λ r. rw r refl)
+-- from a position that is refused none
+none : (p : List ℕ) (pos : Position) (at : Placed) → stands pos ≡ false → tokens (stepFrom (packetsIn p) pos at .answer) ≡ 0
+none p pos (positions.refused n) s = refl
+none p pos (positions.at n) s = rw s refl
 
 -- the set has at most 128 columns
 pub few : (p : List ℕ) (pos : Position) {t : Token} → stepOf p pos .answer ≡ answer.Token t → pos .count ≤ 128
 unfolding stepOf
 few p pos e =
-    by-test (stands p pos) (λ s. standing p pos s .few)
-    (λ s. let z : _≡_ {A = ℕ} 0 1 = sym (none (parsedOf p) (length p) pos) ∙ ap tokens (rw s at e) in absurd (omega arith))
+    by-test (stands pos) (λ s. standing pos s .few)
+    (λ s. let z : _≡_ {A = ℕ} 0 1 = sym (none p pos (placeIn (packetsIn p) (pos .packet) (pos .place)) s) ∙ ap tokens e in absurd (omega arith))
 
 -- a token has 11 slots
 pub eleven : (t : Token) → length (tokenSlots t) ≡ 11
@@ -147,27 +151,20 @@ eleven (Message kind number state class text server procedure line) = refl
 
 -- ---- how it ends
 
--- the slots after a step go by the next position's spot
-by-spot : (position out : List ℕ) (n : ℕ) (a : Answer) (x y : Position) → OneSpot x y → slotsAfter n a x position out ≡ slotsAfter n a y position out
-unfolding slotsAfter
-by-spot position out n (answer.Token t) x y e = rw (e .0, e .1, e .2, e .3, e .4) refl
-by-spot position out n answer.End x y e = refl
-by-spot position out n (answer.Refused r) x y e = refl
-
 module _ (position out : List ℕ) where
   -- what is left after an answer: r, the position's slots and out
-  abbrev pub Left : ℕ → Answer → Position → (position' out' : List ℕ) → ℤ → Type 0
+  abbrev pub Left : ℕ → Answer → Spot → (position' out' : List ℕ) → ℤ → Type 0
   Left n a next position' out' r =
       let o = stepOutcome (length position) a in (r ≡ answerOf o out) × ((position' ≡ slotsAfter n a next position out) × (out' ≡ slotsOf o out))
 
-  module _ (n : ℕ) (t : Token) (next : Position) {r : ℤ} where
+  module _ (n : ℕ) (t : Token) (next : Spot) {r : ℤ} where
     -- too few slots for the position
-    pub no-position : length position < 133 → mag r < 2 ^ 63 → r ≡ numberOf (refuses 20) → Left n (answer.Token t) next position out (toZ w64 (ofZ w64 r))
+    pub no-position : length position < 134 → mag r < 2 ^ 63 → r ≡ numberOf (refuses 20) → Left n (answer.Token t) next position out (toZ w64 (ofZ w64 r))
     unfolding slotsAfter
     no-position h fits e = let s = stopped {p = refuses 20} out fits e refl in simp (lt-ltb _ _ h) (s .0, (refl, s .1))
 
     -- too few slots of out
-    pub no-out : 133 ≤ length position → length out < 11 → mag r < 2 ^ 63 → r ≡ numberOf (refuses 20)
+    pub no-out : 134 ≤ length position → length out < 11 → mag r < 2 ^ 63 → r ≡ numberOf (refuses 20)
         → Left n (answer.Token t) next position out (toZ w64 (ofZ w64 r))
     unfolding slotsAfter
     no-out h k fits e =
@@ -176,7 +173,7 @@ module _ (position out : List ℕ) where
         simp (le-ltb _ _ h, lt-ltb _ _ k) (s .0, (refl, s .1))
 
     -- enough of both
-    pub moved : {position' out' : List ℕ} → 133 ≤ length position → 11 ≤ length out → position' ≡ withType n t (overwrite position 0 (spotSlots next))
+    pub moved : {position' out' : List ℕ} → 134 ≤ length position → 11 ≤ length out → position' ≡ withType n t (overwrite position 0 (spotSlots next))
         → Ended (answers 1 (tokenSlots t)) out out' r → Left n (answer.Token t) next position' out' r
     unfolding slotsAfter
     moved h k e s = simp (le-ltb _ _ h, le-ltb _ _ k) (s .0, (e, s .1))
@@ -187,13 +184,20 @@ module _ (position out : List ℕ) where
     Told position' out' r =
         let call = stepCall packet position in (r ≡ answerOf call out) × ((position' ≡ positionLeft packet position out) × (out' ≡ slotsOf call out))
 
-    pub told : {at : Position} {s : Step} {a : Answer} {n : ℕ} {position' out' : List ℕ} {r : ℤ} → at ≡ positionTo (heldOf position) position → s ≡ stepOf packet at
-        → s .answer ≡ a → n ≡ at .count - at .«columns_left» → Left n a (s .next) position' out' r → Told position' out' r
-    unfolding stepCall positionLeft positionTo
-    told {s} {a} {n} e f g h l =
-        let k = alike packet position in
-        let f' = f ∙ ap (stepOf packet) e in
-        let q : stepOf packet (positionTo 128 position) .answer ≡ a = sym (k .0) ∙ ap (λ (s : Step). s .answer) (sym f') ∙ g in
-        let w : OneSpot (s .next) (stepOf packet (positionTo 128 position) .next) = rw f' (k .1) in
-        let m : n ≡ getD position 1 0 - getD position 2 0 = h ∙ ap (λ (p : Position). p .count - p .«columns_left») e in
-        rw (q, ← m) (l .0, (l .1 .0 ∙ by-spot position out n a (s .next) (stepOf packet (positionTo 128 position) .next) w, l .1 .1))
+    -- what was found, as a step of the position in the slots
+    pub found : {at : Spot} {types : HeldTypes} {g h : Got} → at ≡ spotOf (positionOf position) → types ≡ heldIn (positionOf position) → g ≡ gotOf packet at types → g ≡ h
+        → stepBy (positionOf position) h ≡ stepOf packet (positionOf position)
+    found {types} p q f e = ap (stepBy (positionOf position)) (sym e) ∙ stepped packet (positionOf position) q (f ∙ ap (λ (a : Spot). gotOf packet a types) p)
+
+    -- and the spot after a token
+    pub after-found : {g : Got} {at next : Spot} {t : Token} {number place : ℕ} → g ≡ got.Token t number place → at ≡ spotOf (positionOf position) → next ≡ spotAfter at t number place
+        → next ≡ spotOf (after (positionOf position) t (record { packet = number; place = place }))
+    after-found {t} {number} {place} q p e = e ∙ ap (λ (a : Spot). spotAfter a t number place) p ∙ sym (after-spot (positionOf position) t number place)
+
+    pub told : {s : Step} {a : Answer} {next : Spot} {n : ℕ} {position' out' : List ℕ} {r : ℤ} → s ≡ stepOf packet (positionOf position) → s .answer ≡ a
+        → next ≡ spotOf (s .next) → n ≡ positionOf position .count - positionOf position .«columns_left» → Left n a next position' out' r → Told position' out' r
+    unfolding stepCall positionLeft
+    told {a} {next} {n} f g h k l =
+        let q : stepOf packet (positionOf position) .answer ≡ a = sym (ap (λ (s : Step). s .answer) f) ∙ g in
+        let w : next ≡ spotOf (stepOf packet (positionOf position) .next) = h ∙ ap (λ (s : Step). spotOf (s .next)) f in
+        rw (q, ← k, ← w) (l .0, (l .1 .0, l .1 .1))

@@ -9,22 +9,21 @@ use lib.ListN.{length}
 use Rattle.wire.proofs.Cases.{by-test}
 use Rattle.wire.specs.Even.{even}
 use Rattle.wire.specs.declared.Part.{Part}
-use Rattle.packet.specs.declared.Parsed.{Parsed}
-use Rattle.packet.specs.declared.Parsed.the-variants as parsed
-use Rattle.packet.specs.Header.{parsedOf}
 use Rattle.token.specs.Types.{lengthWidth, collationSize}
-use Rattle.payload.specs.Places.{Place, Read, whole, refused, numberAt, partAt, must, then, atEnd}
+use Rattle.payload.specs.Places.{Source, Place, Read, whole, refused, numberAt, partAt, must, then}
+use Rattle.payload.specs.Packets.{packetsIn, sourceOf}
+use Rattle.payload.specs.Positions as positions
+use Rattle.payload.specs.Positions.{Placed, Corner, placeIn, cornerOf}
 use Rattle.cells.specs.declared.TypeInfo.{TypeInfo}
 use Rattle.cells.specs.Cells.{isCode, isType, typeAt, cellAt}
 use Rattle.reader.specs.declared.Answer.{Answer}
 use Rattle.reader.specs.declared.Answer.the-variants as answer
 use Rattle.reader.specs.declared.Position.{Position}
-use Rattle.reader.specs.declared.Step.{Step}
 use Rattle.reader.specs.declared.Token.{Token}
 use Rattle.reader.specs.declared.Token.the-variants.{ColMetadata, Column, Row, Cell, Done, Message}
 use Rattle.reader.specs.ReadTokens.{columnAt, metadataAt, rowAt, doneAt, textsAt, messageAt, tokenAt}
 use Rattle.reader.specs.Positions.{stands, after}
-use Rattle.reader.specs.Reader.{settled, rowCellAt, nextAt, endAt, isReply, afterHeader, refusedAt, stepOf}
+use Rattle.reader.specs.Reader.{settled, rowCellAt, nextAt, endAt, refusedAt, stepFrom, stepOf}
 
 -- ---- what holds of whatever is read
 
@@ -36,13 +35,13 @@ module _ {A : Type 0} (G : A → Type 0) where
   All (whole a at) = G a
   All (refused n) = Anything
 
-  number-all : (k : ℕ) (p : List ℕ) (at : Place) (go : ℕ → Place → Read A) → ((n : ℕ) (a : Place) → All (go n a)) → All (numberAt k p at go)
+  number-all : (k : ℕ) (p : Source) (at : Place) (go : ℕ → Place → Read A) → ((n : ℕ) (a : Place) → All (go n a)) → All (numberAt k p at go)
   unfolding numberAt
-  number-all k p at go g = by-test (leb (at + k) (length p)) (λ t. rw t (g _ _)) (λ t. rw t refl)
+  number-all k p at go g = by-test (leb (at + k) (length (p .bytes))) (λ t. rw t (g _ _)) (λ t. rw t refl)
 
-  part-all : (n : ℕ) (p : List ℕ) (at : Place) (go : Part → Place → Read A) → ((x : Part) (a : Place) → All (go x a)) → All (partAt n p at go)
+  part-all : (n : ℕ) (p : Source) (at : Place) (go : Part → Place → Read A) → ((x : Part) (a : Place) → All (go x a)) → All (partAt n p at go)
   unfolding partAt
-  part-all n p at go g = by-test (leb (at + n) (length p)) (λ t. rw t (g _ _)) (λ t. rw t refl)
+  part-all n p at go g = by-test (leb (at + n) (length (p .bytes))) (λ t. rw t (g _ _)) (λ t. rw t refl)
 
   must-all : (b : Bool) (n : ℕ) (r : Read A) → (b ≡ true → All r) → All (must b n r)
   unfolding must
@@ -74,25 +73,25 @@ Typed (Cell v) = Anything
 Typed (Done status command count) = Anything
 Typed (Message kind number state class text server procedure line) = Anything
 
-type-typed : (p : List ℕ) (at : Place) → All (λ (t : TypeInfo). isType (t .code) (t .limit) ≡ true) (typeAt p at)
+type-typed : (p : Source) (at : Place) → All (λ (t : TypeInfo). isType (t .code) (t .limit) ≡ true) (typeAt p at)
 unfolding typeAt
 type-typed p at =
     number-all _ 1 p at _ (λ code a1. must-all _ (isCode code) _ _ (λ c. number-all _ (lengthWidth code) p a1 _
     (λ limit a2. must-all _ (isType code limit) _ _ (λ e. part-all _ (collationSize code) p a2 _ (λ collation a3. e)))))
 
-column-typed : (p : List ℕ) (at : Place) → All Typed (columnAt p at)
+column-typed : (p : Source) (at : Place) → All Typed (columnAt p at)
 unfolding columnAt
 column-typed p at =
     number-all Typed 4 p at _ (λ user a1. number-all Typed 2 p a1 _ (λ flags a2. then-all _ Typed (typeAt p a2) _ (type-typed p a2)
     (λ type a3 e. number-all Typed 1 p a3 _ (λ units a4. part-all Typed _ p a4 _ (λ name a5. e)))))
 
-message-typed : (kind : ℕ) (p : List ℕ) (at : Place) → All Typed (messageAt kind p at)
+message-typed : (kind : ℕ) (p : Source) (at : Place) → All Typed (messageAt kind p at)
 unfolding messageAt
 message-typed kind p at =
     number-all Typed 2 p at _ (λ size a1. must-all Typed (leb 14 size && even size) _ _ (λ e. number-all Typed 4 p a1 _ (λ number a2. number-all Typed 1 p a2 _
     (λ state a3. number-all Typed 1 p a3 _ (λ class a4. then-any Typed (textsAt (size - 14) p a4) _ (λ t a5. refl))))))
 
-token-typed : (columns : ℕ) (p : List ℕ) (at : Place) → All Typed (tokenAt columns p at)
+token-typed : (columns : ℕ) (p : Source) (at : Place) → All Typed (tokenAt columns p at)
 unfolding tokenAt metadataAt rowAt doneAt
 token-typed columns p at =
     number-all Typed 1 p at _ (λ code a1.
@@ -101,40 +100,44 @@ token-typed columns p at =
     (cond-all Typed (eqb code 0xFD) _ _ (number-all Typed 2 p a1 _ (λ status a2. number-all Typed 2 p a2 _ (λ command a3. number-all Typed 8 p a3 _ (λ count a4. refl))))
     (cond-all Typed (eqb code 0xAA || eqb code 0xAB) (messageAt code p a1) (refused 25) (message-typed code p a1) refl))))
 
-next-typed : (p : List ℕ) (pos : Position) → All Typed (nextAt p pos)
+next-typed : (p : Source) (at : Place) (pos : Position) → All Typed (nextAt p at pos)
 unfolding nextAt rowCellAt
-next-typed p pos =
-    cond-all Typed (ltb 0 (pos .«columns_left»)) _ _ (column-typed p (pos .place))
-    (cond-all Typed (ltb 0 (pos .«cells_left»)) _ _ (then-any Typed (cellAt _ _ p (pos .place)) _ (λ v at. refl)) (token-typed (pos .count) p (pos .place)))
+next-typed p at pos =
+    cond-all Typed (ltb 0 (pos .«columns_left»)) _ _ (column-typed p at)
+    (cond-all Typed (ltb 0 (pos .«cells_left»)) _ _ (then-any Typed (cellAt _ _ p at) _ (λ v to. refl)) (token-typed (pos .count) p at))
 
 -- ---- what an answer tells of the next position
 
 abbrev pub Following : Position → Answer → Position → Type 0
-Following pos (answer.Token t) next = (at : Place) × ((next ≡ after pos t at) × Typed t)
+Following pos (answer.Token t) next = (c : Corner) × ((next ≡ after pos t c) × Typed t)
 Following pos answer.End next = next ≡ pos
 Following pos (answer.Refused n) next = next ≡ pos
 
-module _ (p : List ℕ) (pos : Position) where
-  settled-following : (r : Read Token) → All Typed r → let s = settled pos r in Following pos (s .answer) (s .next)
-  settled-following (whole t at) g = (at, (refl, g))
+module _ (l : List ℕ) (pos : Position) where
+  settled-following : (r : Read Token) → All Typed r → let s = settled (packetsIn l) pos r in Following pos (s .answer) (s .next)
+  settled-following (whole t at) g = (cornerOf (packetsIn l) at, (refl, g))
   settled-following (refused n) g = refl
 
-  end-following : (b : Bool) → Following pos (cond b answer.End (answer.Refused 26)) pos
-  end-following true = refl
-  end-following false = refl
+  end-following : (left over : Bool) (n : ℕ) → Following pos (cond left (answer.Refused 26) (cond over answer.End (answer.Refused n))) pos
+  end-following true over n = refl
+  end-following false true n = refl
+  end-following false false n = refl
 
-  over-following : (o : Bool) → let s = cond o (endAt p pos) (settled pos (nextAt p pos)) in Following pos (s .answer) (s .next)
-  over-following true = end-following (atEnd p (pos .place))
-  over-following false = settled-following (nextAt p pos) (next-typed p pos)
+  over-following : (n : ℕ) (o : Bool) → let s = cond o (endAt (sourceOf (packetsIn l)) n pos) (settled (packetsIn l) pos (nextAt (sourceOf (packetsIn l)) n pos)) in
+      Following pos (s .answer) (s .next)
+  over-following n true = end-following (ltb n (length (sourceOf (packetsIn l) .bytes))) (eqb (sourceOf (packetsIn l) .stop) 24) (sourceOf (packetsIn l) .stop)
+  over-following n false = settled-following (nextAt (sourceOf (packetsIn l)) n pos) (next-typed (sourceOf (packetsIn l)) n pos)
 
-  stands-following : (b : Bool) → let s = cond b (cond (pos .over) (endAt p pos) (settled pos (nextAt p pos))) (refusedAt pos 24) in Following pos (s .answer) (s .next)
-  stands-following true = over-following (pos .over)
-  stands-following false = refl
+  stands-following : (n : ℕ) (b : Bool)
+      → let s = cond b (cond (pos .over) (endAt (sourceOf (packetsIn l)) n pos) (settled (packetsIn l) pos (nextAt (sourceOf (packetsIn l)) n pos))) (refusedAt pos 24) in
+      Following pos (s .answer) (s .next)
+  stands-following n true = over-following n (pos .over)
+  stands-following n false = refl
 
-  header-following : (h : Parsed) (n : ℕ) (s : Step) → Following pos (s .answer) (s .next) → let t = afterHeader h n pos s in Following pos (t .answer) (t .next)
-  header-following (parsed.Refused r) n s f = refl
-  header-following (parsed.Header h) n s f = by-test (isReply h n) (λ r. rw r f) (λ r. rw r refl)
+  from-following : (at : Placed) → let s = stepFrom (packetsIn l) pos at in Following pos (s .answer) (s .next)
+  from-following (positions.refused n) = refl
+  from-following (positions.at n) = stands-following n (stands pos)
 
-  pub following : Following pos (stepOf p pos .answer) (stepOf p pos .next)
+  pub following : Following pos (stepOf l pos .answer) (stepOf l pos .next)
   unfolding stepOf
-  following = header-following (parsedOf p) (length p) _ (stands-following (stands p pos))
+  following = from-following (placeIn (packetsIn l) (pos .packet) (pos .place))

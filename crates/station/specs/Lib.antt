@@ -7,3 +7,4 @@ pub mod Builds
 pub mod Steps
 pub mod Stepping
 pub mod Procedures
+pub mod Packets

@@ -2,7 +2,7 @@
 use Prim.Native.Nat.{ℕ, suc}
 use mathlib.Core.List.{List, [], _∷_}
 use lib.IntN.{ℤ, pos, negsuc}
-use Rattle.result.specs.Built.{builtOf}
+use Rattle.result.specs.Built.{builtOf, builtInPackets}
 use Rattle.result.specs.declared.Built.{Built}
 use Rattle.result.specs.declared.Built.the-variants.{Written, Refused as BuiltRefused}
 use Rattle.result.specs.declared.Room.{Room}
@@ -22,6 +22,10 @@ builtOutcome (BuiltRefused n) = refuses n
 -- where room bytes are lent
 unfoldable pub builtCall : List ℕ → (room : ℕ) → Outcome
 builtCall s room = builtOutcome (builtOf s room)
+
+-- the same in packets of a size
+unfoldable pub inPacketsCall : (size : ℕ) → List ℕ → (room : ℕ) → Outcome
+inPacketsCall size s room = builtOutcome (builtInPackets size s room)
 
 -- the room estimate that an i64 tells: room for so many bytes, or by -N the refusal N
 unfoldable pub roomTold : ℤ → Room

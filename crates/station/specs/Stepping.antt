@@ -17,17 +17,17 @@ FreshStands = positionOf freshSlots ≡ freshPosition
 -- where `station_step` answers 1, the slots that it leaves stand for the next position
 abbrev pub NextStands : Type 0
 NextStands =
-    (packet position out : List ℕ) → answerOf (stepCall packet position) out ≡ pos 1
-    → positionOf (positionLeft packet position out) ≡ stepOf packet (positionOf position) .next
+    (packets position out : List ℕ) → answerOf (stepCall packets position) out ≡ pos 1
+    → positionOf (positionLeft packets position out) ≡ stepOf packets (positionOf position) .next
 
 -- the slots of a position after n calls, each of which is lent those that the last one left, and some slots of out
-abbrev pub afterCalls : ℕ → (packet position : List ℕ) → (outs : ℕ → List ℕ) → List ℕ
-afterCalls zero packet position outs = position
-afterCalls (suc n) packet position outs = afterCalls n packet (positionLeft packet position (outs 0)) (λ k. outs (suc k))
+abbrev pub afterCalls : ℕ → (packets position : List ℕ) → (outs : ℕ → List ℕ) → List ℕ
+afterCalls zero packets position outs = position
+afterCalls (suc n) packets position outs = afterCalls n packets (positionLeft packets position (outs 0)) (λ k. outs (suc k))
 
 -- lend slots to `station_fresh`, then to one `station_step` after the other: what the n-th of them answers, from 0, is the n-th answer of
 -- the reader's run
 abbrev pub RunStands : Type 0
 RunStands =
-    (packet slots : List ℕ) (outs : ℕ → List ℕ) → 133 ≤ length slots → ((k : ℕ) → 11 ≤ length (outs k)) → (n : ℕ)
-    → stepCall packet (afterCalls n packet (slotsOf freshCall slots) outs) ≡ stepOutcome 133 (nthAnswer n packet freshPosition)
+    (packets slots : List ℕ) (outs : ℕ → List ℕ) → 134 ≤ length slots → ((k : ℕ) → 11 ≤ length (outs k)) → (n : ℕ)
+    → stepCall packets (afterCalls n packets (slotsOf freshCall slots) outs) ≡ stepOutcome 134 (nthAnswer n packets freshPosition)

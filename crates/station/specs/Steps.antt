@@ -1,5 +1,5 @@
 -- The reply reader for C: a position as slots, a token as slots, and what the two calls answer. Rests on the definitions of `reader`.
-use Prim.Native.Nat.{ℕ, zero, suc, _+_, _-_, _*_, _/_, _%_, _^_, min}
+use Prim.Native.Nat.{ℕ, zero, suc, _+_, _-_, _*_, _/_, _%_, _^_}
 use mathlib.Core.Bool.{cond, _||_}
 use mathlib.Core.List.{List, [], _∷_}
 use lib.Dec.{eqb, leb, ltb}
@@ -13,13 +13,15 @@ use Rattle.cells.specs.declared.Value.the-variants as value
 use Rattle.reader.specs.declared.Answer.{Answer}
 use Rattle.reader.specs.declared.Answer.the-variants as answer
 use Rattle.reader.specs.declared.Position.{Position}
+use Rattle.reader.specs.declared.Spot.{Spot}
 use Rattle.reader.specs.declared.Token.{Token}
 use Rattle.reader.specs.declared.Token.the-variants.{ColMetadata, Column, Row, Cell, Done, Message}
 use Rattle.reader.specs.Reader.{stepOf}
+use Rattle.reader.specs.Spots.{spotOf}
 use Rattle.station.specs.Answer.{Outcome, answers, refuses}
 
--- ---- a position as 133 slots: place, columns of the set, columns left, cells left, 1 where the last DONE was read, else 0; then for
--- each of 128 columns its type's code * 65536 + its length. A slot that is not there counts 0
+-- ---- a position as 134 slots: place in its packet, columns of the set, columns left, cells left, 1 where the last DONE was read, else 0,
+-- the packet from 1; then for each of 128 columns its type's code * 65536 + its length. A slot that is not there counts 0
 
 -- the type of a column in its slot: one of 2^24 or more stands for no type, which is code 0
 unfoldable pub codeOf : ℕ → ℕ
@@ -34,35 +36,28 @@ typeSlot code limit = code * 65536 + limit
 -- 128 values, the first n each from its column's slot, the others 0
 unfoldable pub firstOf : (ℕ → ℕ) → ℕ → List ℕ → List ℕ
 firstOf value zero slots = replicate 128 0
-firstOf value (suc n) slots = set (firstOf value n slots) n (value (getD slots (5 + n) 0))
+firstOf value (suc n) slots = set (firstOf value n slots) n (value (getD slots (6 + n) 0))
 
 -- the place; 0, which lies in the header, so that a step answers 24, where slot 4 is neither 0 nor 1
 unfoldable pub placeOf : List ℕ → ℕ
 placeOf slots = cond (leb (getD slots 4 0) 1) (getD slots 0 0) 0
 
--- the position that slots stand for, where the types of the first n columns are looked at
-unfoldable pub positionTo : ℕ → List ℕ → Position
-positionTo n slots = record {
+-- the position that slots stand for, whatever they are
+unfoldable pub positionOf : List ℕ → Position
+positionOf slots = record {
+  packet = getD slots 5 0;
   place = placeOf slots;
   count = getD slots 1 0;
-  types = firstOf codeOf n slots;
-  limits = firstOf lengthOf n slots;
+  types = firstOf codeOf 128 slots;
+  limits = firstOf lengthOf 128 slots;
   «columns_left» = getD slots 2 0;
   «cells_left» = getD slots 3 0;
   over = eqb (getD slots 4 0) 1;
 }
 
--- the position that slots stand for, whatever they are
-abbrev pub positionOf : List ℕ → Position
-positionOf slots = positionTo 128 slots
-
--- how many types a position holds, at most 128: a step looks at no others, so the code reads no others
-unfoldable pub heldOf : List ℕ → ℕ
-heldOf slots = min (getD slots 1 0 - getD slots 2 0) 128
-
 -- the slots of a position that has read nothing
 abbrev pub freshSlots : List ℕ
-freshSlots = 8 ∷ replicate 132 0
+freshSlots = 8 ∷ 0 ∷ 0 ∷ 0 ∷ 0 ∷ 1 ∷ replicate 128 0
 
 unfoldable pub freshCall : Outcome
 freshCall = answers 0 freshSlots
@@ -99,21 +94,21 @@ tokenSlots (Message kind number state class text server procedure line) =
 
 -- 1 with the token's slots, where room slots are lent for the position: 20 where they are too few. 0 at the end, and no slot is asked for
 abbrev pub stepOutcome : (room : ℕ) → Answer → Outcome
-stepOutcome room (answer.Token t) = cond (ltb room 133) (refuses bufferTooShort) (answers 1 (tokenSlots t))
+stepOutcome room (answer.Token t) = cond (ltb room 134) (refuses bufferTooShort) (answers 1 (tokenSlots t))
 stepOutcome room answer.End = answers 0 []
 stepOutcome room (answer.Refused n) = refuses n
 
-unfoldable pub stepCall : (packet position : List ℕ) → Outcome
-stepCall packet position = stepOutcome (length position) (stepOf packet (positionOf position) .answer)
+unfoldable pub stepCall : (packets position : List ℕ) → Outcome
+stepCall packets position = stepOutcome (length position) (stepOf packets (positionOf position) .answer)
 
 -- the slots of a position but its columns' types
-abbrev pub spotSlots : Position → List ℕ
-spotSlots p = p .place ∷ p .count ∷ p .«columns_left» ∷ p .«cells_left» ∷ cond (p .over) 1 0 ∷ []
+abbrev pub spotSlots : Spot → List ℕ
+spotSlots p = p .place ∷ p .count ∷ p .«columns_left» ∷ p .«cells_left» ∷ cond (p .over) 1 0 ∷ p .packet ∷ []
 
 -- slots after a token, which was read when n columns of its set were: a column's type stands in its slot
 unfoldable pub withType : ℕ → Token → List ℕ → List ℕ
 withType n (ColMetadata count) slots = slots
-withType n (Column user flags code limit collation name) slots = set slots (5 + n) (typeSlot code limit)
+withType n (Column user flags code limit collation name) slots = set slots (6 + n) (typeSlot code limit)
 withType n Row slots = slots
 withType n (Cell v) slots = slots
 withType n (Done status command count) slots = slots
@@ -121,14 +116,14 @@ withType n (Message kind number state class text server procedure line) slots = 
 
 -- what stands in the slots lent for a position after a step: after a token those of the next position, where enough slots of it and of
 -- out are lent; else they are as they were
-unfoldable pub slotsAfter : ℕ → Answer → (next : Position) → (position out : List ℕ) → List ℕ
+unfoldable pub slotsAfter : ℕ → Answer → (next : Spot) → (position out : List ℕ) → List ℕ
 slotsAfter n (answer.Token t) next position out =
-    cond (ltb (length position) 133 || ltb (length out) 11) position (withType n t (overwrite position 0 (spotSlots next)))
+    cond (ltb (length position) 134 || ltb (length out) 11) position (withType n t (overwrite position 0 (spotSlots next)))
 slotsAfter n answer.End next position out = position
 slotsAfter n (answer.Refused r) next position out = position
 
-unfoldable pub positionLeft : (packet position out : List ℕ) → List ℕ
-positionLeft packet position out =
+unfoldable pub positionLeft : (packets position out : List ℕ) → List ℕ
+positionLeft packets position out =
     let p = positionOf position in
-    let step = stepOf packet p in
-    slotsAfter (p .count - p .«columns_left») (step .answer) (step .next) position out
+    let step = stepOf packets p in
+    slotsAfter (p .count - p .«columns_left») (step .answer) (spotOf (step .next)) position out

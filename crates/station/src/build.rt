@@ -1,13 +1,15 @@
-// Replies: the exports of `response`'s builders, by its names and with its arguments. The answer is how many bytes were
-// written to the front of buf, or -N, and then buf is as it was.
+// Replies: the exports of `response`'s builders and of its cutting, by its names and with its arguments. The answer is how many
+// bytes were written to the front of buf, or -N, and then buf is as it was.
 ghost use mathlib.Core.Path.{_≡_};
 ghost use mathlib.Core.Bool.{false};
 ghost use Prim.Native.Nat.{ℕ, _<_, _^_};
 ghost use Rattle.script.specs.Records.{records};
+ghost use lib.ListN.{length};
 ghost use Rattle.response.specs.Answer.{bufferOf};
+ghost use Rattle.response.specs.Packets.{cutBuffer};
 ghost use Rattle.response.specs.Replies.{preloginReply, fedauthAckReply, classificationAckReply, featuresReply, routingAckReply, challengeReply, fedauthInfoReply, loginAckReply, doneReply, attentionReply, transactionReply, infoReply, errorTokensReply, errorReply, routeReply, routingReply, databaseRouteReply, routingLoginReply};
 ghost use Rattle.station.specs.Answer.{numberOf};
-ghost use Rattle.station.specs.Builds.{builtOutcome, builtNumber, ackOf};
+ghost use Rattle.station.specs.Builds.{builtOutcome, builtNumber, cutNumber, ackOf};
 use crate::slots::refused;
 use response::Acknowledgement;
 use response::Built;
@@ -319,4 +321,13 @@ pub extern "C" fn station_build_routing_login_response(
         ack_before_routing,
         buf,
     ))
+}
+
+// A reply's payload in packets of a size.
+#[no_mangle]
+pub extern "C" fn station_cut_payload(payload: &[u8], size: usize, buf: &mut [u8]) -> i64
+    ensures { λ r. ⌜ r ≡ cutNumber size (now (payload .entry)) (length (now (buf .entry))) ⌝ }
+    ensures { λ _. ⌜ now (buf .exit) ≡ cutBuffer size (now (payload .entry)) (now (buf .entry)) ⌝ }
+{
+    tell(response::cut_payload(payload, size, buf))
 }

@@ -4,6 +4,7 @@
 // A call's contract is its outcome (specs/) as answer and as slots; it ends by `refused` or by `answered`.
 mod build;
 mod logins;
+mod packets;
 mod procedures;
 mod requests;
 mod results;

@@ -1,11 +1,11 @@
-// Replies to scripts: the reply builder under its four names, the room estimate and the fit check.
+// Replies to scripts: the reply builder under its four names and in packets, the room estimate and the fit check.
 ghost use mathlib.Core.Path.{_≡_};
 ghost use mathlib.Core.Bool.{true};
 ghost use lib.ListN.{length};
-ghost use Rattle.result.specs.Built.{bufferOf};
+ghost use Rattle.result.specs.Built.{bufferOf, bufferInPackets};
 ghost use Rattle.result.specs.Room.{isRoom};
 ghost use Rattle.station.specs.Answer.{numberOf, answerOf, slotsOf};
-ghost use Rattle.station.specs.Results.{builtCall, roomTold, misfitOutcome, fitCall};
+ghost use Rattle.station.specs.Results.{builtCall, inPacketsCall, roomTold, misfitOutcome, fitCall};
 use crate::slots::answered;
 use crate::slots::refused;
 use fit::Fit;
@@ -51,6 +51,22 @@ pub extern "C" fn station_build_query_result_with_extras(script: &[u8], buf: &mu
     ensures { λ _. ⌜ now (buf .exit) ≡ bufferOf (now (script .entry)) (now (buf .entry)) ⌝ }
 {
     station_build_query_results(script, buf)
+}
+
+// The bytes written of a script's reply in packets of a size.
+#[no_mangle]
+pub extern "C" fn station_build_query_results_in_packets(
+    script: &[u8],
+    size: usize,
+    buf: &mut [u8],
+) -> i64
+    ensures { λ r. ⌜ r ≡ numberOf (inPacketsCall size (now (script .entry)) (length (now (buf .entry)))) ⌝ }
+    ensures { λ _. ⌜ now (buf .exit) ≡ bufferInPackets size (now (script .entry)) (now (buf .entry)) ⌝ }
+{
+    match result::build_query_results_in_packets(script, size, buf) {
+        Built::Written(length) => length as i64,
+        Built::Refused(number) => refused(number),
+    }
 }
 
 // Room to lend for a script's reply: at least its length, and at most 32 more.

@@ -2,33 +2,39 @@
 use refusals::BUFFER_TOO_SHORT;
 ghost use mathlib.Core.Path.{_≡_};
 ghost use mathlib.Core.Bool.{cond};
-ghost use Prim.Native.Nat.{_≤_, _-_, min};
-ghost use lib.Dec.{leb};
+ghost use Prim.Native.Nat.{_+_, _≤_};
+ghost use lib.Dec.{leb, ltb};
 ghost use lib.ListN.{length, getD, set};
 ghost use Rattle.wire.specs.Over.{overwrite};
 ghost use Rattle.reader.specs.declared.Answer.the-variants as answer;
 ghost use Rattle.reader.specs.declared.Token.the-variants as token;
+ghost use Rattle.reader.specs.Positions.{held};
+ghost use Rattle.reader.specs.Spots.{spotOf, heldIn};
+ghost use Rattle.cells.specs.Cells.{isType};
 ghost use Rattle.station.specs.Answer.{answers, answerOf, slotsOf};
-ghost use Rattle.station.specs.Steps.{codeOf, lengthOf, firstOf, positionTo, heldOf, freshCall, bitsOf, fourSlots, cellSlots, tokenSlots, stepOutcome, stepCall, spotSlots, withType, slotsAfter, positionLeft};
+ghost use Rattle.station.specs.Steps.{codeOf, lengthOf, firstOf, positionOf, freshCall, bitsOf, fourSlots, cellSlots, tokenSlots, stepOutcome, stepCall, spotSlots, withType, slotsAfter, positionLeft};
 use crate::slots::answered;
 use crate::slots::flag;
 use crate::slots::refused;
 use cells::Value;
 use payload::minus;
-use reader::Answer;
+use reader::Got;
+use reader::HeldTypes;
 use reader::MAX_COLUMNS;
-use reader::Position;
+use reader::Spot;
 use reader::Token;
+use reader::got_at;
+use reader::spot_after;
 use wire::Part;
 
 // The slots of a position.
-const POSITION_SLOTS: usize = 133;
+const POSITION_SLOTS: usize = 134;
 
 // The slots of a step.
 const STEP_SLOTS: usize = 11;
 
-// The slot of the first column's type, after those of place, columns, columns left, cells left and the last DONE.
-const FIRST_TYPE: usize = 5;
+// The slot of the first column's type, after those of place, columns, columns left, cells left, the last DONE and the packet.
+const FIRST_TYPE: usize = 6;
 
 // Slots of types are smaller.
 const NO_TYPE: u64 = 0x100_0000;
@@ -42,40 +48,33 @@ pub extern "C" fn station_fresh(position: &mut [u64]) -> i64
     ensures { λ r. ⌜ r ≡ answerOf freshCall (now (position .entry)) ⌝ }
     ensures { λ _. ⌜ now (position .exit) ≡ slotsOf freshCall (now (position .entry)) ⌝ }
 {
-    let mut values: [u64; 133] = [0; 133];
+    let mut values: [u64; 134] = [0; 134];
     values[0] = 8;
+    values[5] = 1;
     answered(position, 0, &values)
 }
 
-// 1: the next token of a reply packet, and the position after it. 0: the end, and the position is kept.
+// 1: the next token of a reply in packets, and the position after it. 0: the end, and the position is kept.
 #[no_mangle]
-pub extern "C" fn station_step(packet: &[u8], position: &mut [u64], out: &mut [u64]) -> i64
-    ensures { λ r. ⌜ r ≡ answerOf (stepCall (now (packet .entry)) (now (position .entry))) (now (out .entry)) ⌝ }
-    ensures { λ _. ⌜ now (position .exit) ≡ positionLeft (now (packet .entry)) (now (position .entry)) (now (out .entry)) ⌝ }
-    ensures { λ _. ⌜ now (out .exit) ≡ slotsOf (stepCall (now (packet .entry)) (now (position .entry))) (now (out .entry)) ⌝ }
+pub extern "C" fn station_step(packets: &[u8], position: &mut [u64], out: &mut [u64]) -> i64
+    ensures { λ r. ⌜ r ≡ answerOf (stepCall (now (packets .entry)) (now (position .entry))) (now (out .entry)) ⌝ }
+    ensures { λ _. ⌜ now (position .exit) ≡ positionLeft (now (packets .entry)) (now (position .entry)) (now (out .entry)) ⌝ }
+    ensures { λ _. ⌜ now (out .exit) ≡ slotsOf (stepCall (now (packets .entry)) (now (position .entry))) (now (out .entry)) ⌝ }
 {
-    let at = position_in(position);
-    let step = at.step(packet);
-    let got = step.answer;
-    match got {
-        Answer::Token(token) => {
-            let column = minus(at.count, at.columns_left);
-            let next = step.next;
-            move_on(token, column, next, position, out)
+    let at = spot_in(position);
+    match got_at(packets, at, held_in(position, at)) {
+        Got::Token(token, packet, place) => {
+            let columns = minus(at.count, at.columns_left);
+            let next = spot_after(at, token, packet, place);
+            move_on(token, columns, next, position, out)
         },
-        Answer::End => 0,
-        Answer::Refused(number) => refused(number),
+        Got::End => 0,
+        Got::Refused(number) => refused(number),
     }
 }
 
 // A token that was read when so many columns were: its slots, and those of the next position.
-fn move_on(
-    token: Token,
-    columns: usize,
-    next: Position,
-    position: &mut [u64],
-    out: &mut [u64],
-) -> i64
+fn move_on(token: Token, columns: usize, next: Spot, position: &mut [u64], out: &mut [u64]) -> i64
     requires { ⌜ columns ≤ 128 ⌝ }
     ensures { λ r. ⌜ r ≡ answerOf (stepOutcome (length (now (position .entry))) (answer.Token token)) (now (out .entry)) ⌝ }
     ensures { λ _. ⌜ now (position .exit) ≡ slotsAfter columns (answer.Token token) next (now (position .entry)) (now (out .entry)) ⌝ }
@@ -92,73 +91,73 @@ fn move_on(
     tell_token(token, out)
 }
 
-// The position that slots stand for, with the types that it holds. Types whose slots are not there stay 0.
-// Every step goes through the loop, so it makes no test: one test after it tells whether some slot is no type's.
-fn position_in(slots: &[u64]) -> Position
-    ensures { λ r. ⌜ r ≡ positionTo (heldOf (now (slots .entry))) (now (slots .entry)) ⌝ }
+// The position that slots stand for, without the types that it holds.
+fn spot_in(slots: &[u64]) -> Spot
+    ensures { λ r. ⌜ r ≡ spotOf (positionOf (now (slots .entry))) ⌝ }
 {
     let over = slot_at(slots, 4);
-    let place = place_of(slots, over) as usize;
-    let count = slot_at(slots, 1) as usize;
-    let columns_left = slot_at(slots, 2) as usize;
-    let cells_left = slot_at(slots, 3) as usize;
-    let n = lent_types(slots);
-    let mut types: [u8; 128] = [0; 128];
-    let mut limits: [u16; 128] = [0; 128];
-    let mut seen: u64 = 0;
-    let mut i = 0;
-    while i < n {
-        let slot = slots[FIRST_TYPE + i];
-        types[i] = (slot / CODE % 256) as u8;
-        limits[i] = (slot % CODE) as u16;
-        seen = seen | slot;
-        i += 1;
-    }
-    if NO_TYPE <= seen {
-        types = codes_in(slots, n);
-    }
-    Position {
-        place,
-        count,
-        types,
-        limits,
-        columns_left,
-        cells_left,
+    Spot {
+        packet: slot_at(slots, 5) as usize,
+        place: place_of(slots, over) as usize,
+        count: slot_at(slots, 1) as usize,
+        columns_left: slot_at(slots, 2) as usize,
+        cells_left: slot_at(slots, 3) as usize,
         over: over == 1,
     }
 }
 
-// The codes of the first n columns, each slot tested.
-fn codes_in(slots: &[u64], n: usize) -> [u8; 128]
-    requires { ⌜ (n ≤ 128) × (n ≤ length (now slots) - 5) ⌝ }
-    ensures { λ r. ⌜ r ≡ firstOf codeOf n (now (slots .entry)) ⌝ }
+// What a step asks of the types in the slots of a position.
+fn held_in(slots: &[u64], at: Spot) -> HeldTypes
+    requires { ⌜ at ≡ spotOf (positionOf (now slots)) ⌝ }
+    ensures { λ r. ⌜ r ≡ heldIn (positionOf (now (slots .entry))) ⌝ }
 {
-    let mut types: [u8; 128] = [0; 128];
+    let slot = type_slot(slots, minus(at.count, at.cells_left));
+    HeldTypes {
+        sound: are_types(slots, minus(at.count, at.columns_left)),
+        code: code_of(slot),
+        limit: (slot % CODE) as u16,
+    }
+}
+
+// The slot of a column's type, 0 where it has none.
+fn type_slot(slots: &[u64], column: usize) -> u64
+    ensures { λ r. ⌜ r ≡ cond (ltb column 128) (getD (now (slots .entry)) (6 + column) 0) 0 ⌝ }
+{
+    if column < MAX_COLUMNS {
+        return slot_at(slots, FIRST_TYPE + column);
+    }
+    0
+}
+
+// Whether the slots of the first n columns are those of column types.
+fn are_types(slots: &[u64], n: usize) -> bool
+    ensures { λ r. ⌜ r ≡ held n (firstOf codeOf 128 (now (slots .entry))) (firstOf lengthOf 128 (now (slots .entry))) ⌝ }
+{
+    if MAX_COLUMNS < n {
+        return false;
+    }
+    if minus(slots.len(), FIRST_TYPE) < n {
+        return false;
+    }
     let mut i = 0;
     while i < n {
-        types[i] = code_of(slots[FIRST_TYPE + i]);
+        if !is_type(slots[FIRST_TYPE + i]) {
+            return false;
+        }
         i += 1;
     }
-    types
+    true
 }
 
-// How many of the types that a position holds have their slots.
-fn lent_types(slots: &[u64]) -> usize
-    ensures { λ r. ⌜ r ≡ min (heldOf (now (slots .entry))) (length (now (slots .entry)) - 5) ⌝ }
-    ensures { λ r. ⌜ r ≤ 128 ⌝ }
+// Whether a slot is that of a column type: 26 with length 1, 2, 4 or 8, E7 with 1 to 8000 or FFFF, A7 and A5 with FFFF.
+fn is_type(slot: u64) -> bool
+    ensures { λ r. ⌜ r ≡ isType (codeOf slot) (lengthOf slot) ⌝ }
 {
-    let held = held_in(slots);
-    let room = minus(slots.len(), FIRST_TYPE);
-    if held < room { held } else { room }
-}
-
-// How many types a position holds.
-fn held_in(slots: &[u64]) -> usize
-    ensures { λ r. ⌜ r ≡ heldOf (now (slots .entry)) ⌝ }
-    ensures { λ r. ⌜ r ≤ 128 ⌝ }
-{
-    let n = minus(slot_at(slots, 1) as usize, slot_at(slots, 2) as usize);
-    if n < MAX_COLUMNS { n } else { MAX_COLUMNS }
+    match slot {
+        0x26_0001 | 0x26_0002 | 0x26_0004 | 0x26_0008 => true,
+        0xE7_FFFF | 0xA7_FFFF | 0xA5_FFFF => true,
+        _ => (0xE7_0001 <= slot) & (slot <= 0xE7_1F40),
+    }
 }
 
 // A slot, 0 where it is not there.
@@ -187,8 +186,8 @@ fn place_of(slots: &[u64], over: u64) -> u64
 }
 
 // The slots of a position but its columns' types.
-fn put_spot(slots: &mut [u64], next: Position)
-    requires { ⌜ 5 ≤ length (now slots) ⌝ }
+fn put_spot(slots: &mut [u64], next: Spot)
+    requires { ⌜ 6 ≤ length (now slots) ⌝ }
     ensures { λ _. ⌜ now (slots .exit) ≡ overwrite (now (slots .entry)) 0 (spotSlots next) ⌝ }
 {
     slots[0] = next.place as u64;
@@ -196,6 +195,7 @@ fn put_spot(slots: &mut [u64], next: Position)
     slots[2] = next.columns_left as u64;
     slots[3] = next.cells_left as u64;
     slots[4] = flag(next.over);
+    slots[5] = next.packet as u64;
 }
 
 // Where a token is a column, its type in its slot, after those of so many columns.

@@ -6,7 +6,7 @@ use native.Mathlib.Nat.{suc-add, add-suc, add-zero}
 use native.Mathlib.Omega.{arith}
 use native.Mathlib.Numerals.{add-one}
 use lib.ListN.{length, take, drop, set, getD, length-set, length-append, take-append-drop}
-use lib.Seq.{sets, sets-eq, set-out, take-suc, take-all, length-take-le}
+use lib.Seq.{sets, sets-eq, set-out, take-suc, take-all, length-take-le, drop-set-lt}
 use Rattle.wire.proofs.Cases.{split}
 use Rattle.wire.specs.Over.{overwrite, Wrote}
 
@@ -26,6 +26,12 @@ pub over-out : (xs l : List ℕ) (at : ℕ) → length l ≤ at → overwrite l 
 unfolding overwrite
 over-out [] l at h = refl
 over-out (x ∷ xs) l at h = rw (set-out l at x h) (over-out xs l (suc at) (omega arith))
+
+-- what stands after it is as it was
+pub drop-over : (xs l : List ℕ) (at n : ℕ) → at + length xs ≤ n → drop n (overwrite l at xs) ≡ drop n l
+unfolding overwrite
+drop-over [] l at n h = refl
+drop-over (x ∷ xs) l at n h = drop-over xs (set l at x) (suc at) n (omega arith) ∙ drop-set-lt n l at x (omega arith)
 
 is-sets : (xs l : List ℕ) (at : ℕ) → overwrite l at xs ≡ sets l at xs
 unfolding overwrite
@@ -110,3 +116,30 @@ unfolding overwrite
 ended {l} {m} {at} {xs = xs} w =
     let long : length m ≡ length l = ap length (w .0) ∙ length-over xs l at in
     (refl, record { place = omega (arith, w .1 .place) })
+
+-- ---- a run of writes that is not over
+
+-- With xs still to be written at the place to of the buffer m, ys are written at the place at of the buffer l: whoever
+-- writes xs there has written ys here
+abbrev pub Owes : List ℕ → ℕ → List ℕ → List ℕ → ℕ → List ℕ → Type 0
+Owes l at ys m to xs = (n : List ℕ) (end : ℕ) → Wrote m to xs n end → Wrote l at ys n end
+
+-- a part of what is owed was written
+pub owes-less : (l : List ℕ) (at : ℕ) (ys m : List ℕ) (to : ℕ) (xs rest : List ℕ) {k : List ℕ} {next : ℕ} {part : List ℕ} → Owes l at ys m to xs → xs ≡ part ++ rest → Wrote m to part k next
+    → Owes l at ys k next rest
+owes-less l at ys m to xs rest f e w n end v = f n end (wrote-as (then w v) (sym e))
+
+-- the last of it was
+pub owes-last : (l : List ℕ) (at : ℕ) (ys m : List ℕ) (to : ℕ) (xs : List ℕ) {k : List ℕ} {next : ℕ} {part : List ℕ} → Owes l at ys m to xs → xs ≡ part → Wrote m to part k next → Wrote l at ys k next
+owes-last l at ys m to xs f e w = f _ _ (wrote-as w (sym e))
+
+-- nothing is owed any more
+pub wrote-nothing : (m : List ℕ) (to : ℕ) → to ≤ length m → Wrote m to [] m to
+unfolding overwrite
+wrote-nothing m to h = (refl, record { place = omega arith })
+
+-- a place that a writer answers lies in the buffer, which keeps its length
+pub place-in : {l m : List ℕ} {at to : ℕ} {xs : List ℕ} → Wrote l at xs m to → to ≤ length m
+place-in {l} {m} {at} {xs = xs} w =
+    let long : length m ≡ length l = ap length (w .0) ∙ length-over xs l at in
+    omega (arith, w .1 .place)

@@ -1,6 +1,6 @@
 //! Mutations that keep an input's shape: of a script record by record with right lengths, of a login
-//! with its table of offsets and its features, of a procedure call parameter by parameter; at times
-//! another input of the oracle's. Half of all mutations are libFuzzer's own, on the bytes.
+//! with its table of offsets and its features, of a procedure call parameter by parameter, of a reply packet
+//! by packet; at times another input of the oracle's. Half of all mutations are libFuzzer's own, on the bytes.
 
 use crate::answers::reply::reply;
 use crate::inputs::login::{random_feature, random_login, scattered_login};
@@ -8,7 +8,9 @@ use crate::inputs::request::*;
 use crate::inputs::script::{damaged, random_record, random_script};
 use crate::procedures;
 use crate::random::Random;
+use crate::reading::HEADER;
 use crate::script::records::{self, Record};
+use crate::steps;
 
 /// libFuzzer's own mutation: the bytes changed, to at most so many.
 pub type Own<'a> = &'a mut dyn FnMut(&[u8], usize) -> Vec<u8>;
@@ -22,6 +24,7 @@ pub fn mutated(target: &str, input: &[u8], most: usize, seed: u64, own: Own) -> 
         "login" => Some(login(&mut random, input)),
         "request" if random.one_in(8) => Some(request(&mut random)),
         "steps" if random.one_in(8) => another_reply(&mut random),
+        "steps" if random.one_in(2) => packets(&mut random, input),
         "rpc" if random.one_in(2) => procedure(&mut random, input),
         _ => None,
     };
@@ -80,10 +83,74 @@ fn request(random: &mut Random) -> Vec<u8> {
     random.pick(&makers)(random)
 }
 
-/// The reply to another script, whole, with no slot forged.
+/// The reply to another script in packets, with no slot forged.
 fn another_reply(random: &mut Random) -> Option<Vec<u8>> {
     let reply = reply(&records::written(&random_script(random))).ok()?;
-    Some([&[0x01, 0x00], &reply[..]].concat())
+    let packets = cut(random, &reply[HEADER..]).concat();
+    Some([&[steps::WHOLE, 0x00], &packets[..]].concat())
+}
+
+/// A payload in packets: one, a few, or many of one size.
+fn cut(random: &mut Random, payload: &[u8]) -> Vec<Vec<u8>> {
+    let few = random.below(4);
+    let first: Vec<usize> = (0..few).map(|_| random.within(1, payload.len().max(1))).collect();
+    let others = random.one_in(3).then(|| random.within(1, 40));
+    steps::cut(payload, &first, others)
+}
+
+/// An input of whole packets with its payload cut anew, or with a packet taken away, repeated or moved, or with a
+/// byte of a header or the bytes after the packets changed.
+fn packets(random: &mut Random, input: &[u8]) -> Option<Vec<u8>> {
+    let head = input.get(..2).filter(|head| head[0] & (steps::WHOLE | 0x0E) == steps::WHOLE)?;
+    let mut parts = parts(&input[2..]);
+    if parts.is_empty() {
+        return None;
+    }
+    let place = random.below(parts.len());
+    match random.below(10) {
+        0..=3 => {
+            let payload: Vec<u8> =
+                parts.iter().flat_map(|part| part.get(HEADER..).unwrap_or(&[]).to_vec()).collect();
+            parts = cut(random, &payload);
+        }
+        4 | 5 => {
+            let size = parts[place].len().min(HEADER);
+            let number = place as u8;
+            let bytes = [0x00, 0x01, 0x02, 0x04, 0x09, 0xFF, number, number.wrapping_add(2)];
+            parts[place][random.below(size)] = random.pick(&bytes);
+        }
+        6 => {
+            parts.remove(place);
+        }
+        7 => {
+            let again = parts[place].clone();
+            parts.insert(place, again);
+        }
+        8 => {
+            let moved = parts.remove(place);
+            parts.insert(random.within(0, parts.len()), moved);
+        }
+        _ => {
+            let count = random.within(1, 10);
+            parts.push(random.bytes(count));
+        }
+    }
+    Some([head, &parts.concat()].concat())
+}
+
+/// The packets in some bytes as their headers' lengths say; none of them is empty, and bytes that no length
+/// takes are the last one.
+fn parts(mut bytes: &[u8]) -> Vec<Vec<u8>> {
+    let mut parts = Vec::new();
+    while !bytes.is_empty() {
+        let length =
+            bytes.get(2..4).map_or(0, |two| usize::from(two[0]) << 8 | usize::from(two[1]));
+        let size = if (HEADER..=bytes.len()).contains(&length) { length } else { bytes.len() };
+        let (part, rest) = bytes.split_at(size);
+        parts.push(part.to_vec());
+        bytes = rest;
+    }
+    parts
 }
 
 /// The procedure call with a whole parameter taken away, repeated, or put before another one.

@@ -62,18 +62,18 @@ pub fn ends(input: &[u8]) -> Vec<usize> {
 
 impl Call {
     fn read(&mut self, body: &[u8]) -> Read<()> {
-        let mut cursor = Cursor { packet: body, place: 0 };
+        let mut cursor = Cursor::body(body);
         self.head = head(&mut cursor).map_err(|_| HEAD_CUT)?;
         self.statement = NO_STATEMENT;
-        self.ends.push(cursor.place);
+        self.ends.push(cursor.start() as usize);
         let executes = self.head[0] == 0 && self.head[3] == EXECUTE_SQL;
-        while cursor.place < body.len() {
+        while cursor.left() > 0 {
             let slots = parameter(&mut cursor)?;
             if executes && self.parameters.is_empty() {
-                self.statement = value_bytes(&slots, cursor.place as u64);
+                self.statement = value_bytes(&slots, cursor.start());
             }
             self.parameters.push(slots);
-            self.ends.push(cursor.place);
+            self.ends.push(cursor.start() as usize);
         }
         must(!executes || !self.parameters.is_empty(), PARAMETER_CUT)
     }
@@ -87,8 +87,7 @@ impl Call {
 /// ALL_HEADERS, over which its total length leads; NameLenProcID; OptionFlags.
 fn head(cursor: &mut Cursor) -> Read<[u64; 5]> {
     let total = cursor.number(4)?;
-    must(total <= cursor.packet.len() as u64, HEAD_CUT)?;
-    cursor.place = total as usize;
+    cursor.skip_to(total)?;
     let units = cursor.number(2)?;
     if units == BY_NUMBER {
         return Ok([0, 0, 0, cursor.number(2)?, cursor.number(2)?]);

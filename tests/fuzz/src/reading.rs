@@ -1,20 +1,22 @@
-//! A second reply reader, written from document 01 ('The reply reader', 'Who causes which refusal') apart
-//! from the proved one: what `station_step` must answer from any slots, and what it must leave in them.
+//! A second reply reader, written from document 01 ('The reply reader', 'Who causes which refusal') and
+//! document 02's request 2026-02 apart from the proved one: what `station_step` must answer from any slots, and
+//! what it must leave in them; and the payloads that `station_payload` joins.
 
 use crate::answers::header::header;
 
 /// The slots of a position and of a step.
-pub const POSITION: usize = 133;
+pub const POSITION: usize = 134;
 pub const TOKEN: usize = 11;
 
-// The layout of a position, which is the library's own: five numbers, then for each of 128 columns its
+// The layout of a position, which is the library's own: six numbers, then for each of 128 columns its
 // type's code above its length.
 const PLACE: usize = 0;
 const COUNT: usize = 1;
 const COLUMNS_LEFT: usize = 2;
 const CELLS_LEFT: usize = 3;
 const OVER: usize = 4;
-const FIRST_TYPE: usize = 5;
+pub const PACKET: usize = 5;
+const FIRST_TYPE: usize = 6;
 const MOST_COLUMNS: u64 = 128;
 
 const NOT_A_REPLY: u8 = 23;
@@ -23,6 +25,11 @@ const UNKNOWN_TOKEN: u8 = 25;
 pub const WRONG: u8 = 26;
 const TOO_MANY_COLUMNS: u8 = 27;
 const NO_COLUMNS: u8 = 28;
+const NOT_NEXT: u8 = 33;
+const END_WRONG: u8 = 34;
+
+/// The bytes of a packet's header.
+pub const HEADER: usize = 8;
 
 const MAX: u64 = 0xFFFF;
 const NULL_TOTAL: u64 = u64::MAX;
@@ -32,38 +39,47 @@ pub type Position = [u64; POSITION];
 pub type Token = [u64; TOKEN];
 pub type Read<T> = Result<T, u8>;
 
-/// The position of a reader that has read nothing: the place after the header.
+/// The position of a reader that has read nothing: in the first packet, after its header.
 pub fn fresh() -> Position {
     let mut position = [0; POSITION];
-    position[PLACE] = 8;
+    position[PACKET] = 1;
+    position[PLACE] = HEADER as u64;
     position
 }
 
 /// The token at a position, which is then after it; none at the end. Else the position is kept.
-pub fn step(packet: &[u8], position: &mut Position) -> Read<Option<Token>> {
-    let head = header(packet)?;
-    let reply = head.fields[0] == 0x04 && head.end_of_message;
-    must(reply && head.fields[2] == packet.len() as u64, NOT_A_REPLY)?;
-    must(stands(packet, position), CUT)?;
-    let mut cursor = Cursor { packet, place: position[PLACE] as usize };
+pub fn step(lent: &[u8], position: &mut Position) -> Read<Option<Token>> {
+    let mut cursor = Cursor::first(lent)?;
+    cursor.go_to(position[PACKET], position[PLACE])?;
+    must(stands(position), CUT)?;
     if position[OVER] == 1 {
-        must(cursor.place == packet.len(), WRONG)?;
-        return Ok(None);
+        return cursor.close().map(|()| None);
     }
     let token = token_at(&mut cursor, position)?;
     move_on(position, &token);
-    position[PLACE] = cursor.place as u64;
+    position[PACKET] = cursor.packet;
+    position[PLACE] = cursor.place();
     Ok(Some(token))
 }
 
-/// Whether a reader can stand there.
-fn stands(packet: &[u8], position: &Position) -> bool {
-    let [place, count, columns_left, cells_left, over, ..] = *position;
-    let possible = (8..=packet.len() as u64).contains(&place)
-        && count <= MOST_COLUMNS
-        && columns_left <= count
-        && cells_left <= count
-        && over <= 1;
+/// The payloads of the packets joined, where the last one ends them.
+pub fn payload(lent: &[u8]) -> Read<Vec<u8>> {
+    let mut cursor = Cursor::first(lent)?;
+    let mut joined = Vec::new();
+    loop {
+        joined.extend(&lent[cursor.at..cursor.end]);
+        if cursor.is_over() {
+            return Ok(joined);
+        }
+        cursor.read_on()?;
+    }
+}
+
+/// Whether a reader can hold these numbers and types.
+fn stands(position: &Position) -> bool {
+    let [_, count, columns_left, cells_left, over, ..] = *position;
+    let possible =
+        count <= MOST_COLUMNS && columns_left <= count && cells_left <= count && over <= 1;
     possible && (0..count - columns_left).all(|column| is_type(held(position, column)))
 }
 
@@ -106,7 +122,7 @@ fn token_at(cursor: &mut Cursor, position: &Position) -> Read<Token> {
     }
 }
 
-/// The position after a token, but for its place.
+/// The position after a token, but for its packet and place.
 fn move_on(position: &mut Position, token: &Token) {
     match token[0] {
         0x81 => {
@@ -190,7 +206,7 @@ fn chunks(cursor: &mut Cursor, even: bool) -> Read<Value> {
     }
     let known = total != UNKNOWN_TOTAL;
     must(!(known && even && total % 2 == 1), WRONG)?;
-    let (start, mut joined) = (cursor.place as u64, 0);
+    let (start, mut joined) = (cursor.start(), 0);
     loop {
         let size = cursor.number(4)?;
         must(!(even && size % 2 == 1), WRONG)?;
@@ -202,7 +218,7 @@ fn chunks(cursor: &mut Cursor, even: bool) -> Read<Value> {
         joined += size;
     }
     must(!known || joined == total, WRONG)?;
-    Ok((3, [start, cursor.place as u64 - start]))
+    Ok((3, [start, cursor.start() - start]))
 }
 
 /// ERROR and INFO: the length counts what follows it, of which 14 bytes are no text.
@@ -235,24 +251,137 @@ pub fn must(holds: bool, number: u8) -> Read<()> {
     if holds { Ok(()) } else { Err(number) }
 }
 
-/// A place in a packet, from which fields are taken: 24 where they do not end in it.
+/// A place in packets, from which fields are taken. A header is tested where its packet's first byte is
+/// needed; a part's start counts payload bytes.
 pub struct Cursor<'a> {
-    pub packet: &'a [u8],
-    pub place: usize,
+    lent: &'a [u8],
+    /// The packet's number from 1, and its end bit.
+    packet: u64,
+    ended: bool,
+    /// Where the packet's payload begins and ends, and the next byte, in the lent bytes.
+    first: usize,
+    end: usize,
+    at: usize,
+    /// The payload bytes of the packets before it.
+    before: u64,
 }
 
-impl Cursor<'_> {
-    pub fn number(&mut self, size: u64) -> Read<u64> {
-        let [start, _] = self.part(size)?;
-        let bytes = &self.packet[start as usize..self.place];
-        Ok(bytes.iter().rev().fold(0, |number, byte| number << 8 | u64::from(*byte)))
+impl<'a> Cursor<'a> {
+    /// At the first payload byte of a reply.
+    fn first(lent: &'a [u8]) -> Read<Self> {
+        let mut cursor = Self { lent, packet: 0, ended: false, first: 0, end: 0, at: 0, before: 0 };
+        cursor.enter()?;
+        Ok(cursor)
+    }
+
+    /// At the start of bytes without packets.
+    pub fn body(lent: &'a [u8]) -> Self {
+        Self { lent, packet: 1, ended: true, first: 0, end: lent.len(), at: 0, before: 0 }
+    }
+
+    /// Goes to the next packet's payload, where its header passes.
+    fn enter(&mut self) -> Read<()> {
+        let rest = &self.lent[self.end..];
+        let head = header(rest)?;
+        let [kind, _, length, _, number, _] = head.fields;
+        let within = (HEADER as u64 + 1..=rest.len() as u64).contains(&length);
+        must(kind == 0x04 && within, NOT_A_REPLY)?;
+        must(number == (self.packet + 1) % 256, NOT_NEXT)?;
+        self.before += (self.end - self.first) as u64;
+        self.packet += 1;
+        self.ended = head.end_of_message;
+        self.first = self.end + HEADER;
+        self.at = self.first;
+        self.end += length as usize;
+        Ok(())
+    }
+
+    fn is_over(&self) -> bool {
+        self.ended && self.end == self.lent.len()
+    }
+
+    /// Past the packet's payload.
+    fn read_on(&mut self) -> Read<()> {
+        must(!self.is_over(), CUT)?;
+        must(!self.ended && self.end < self.lent.len(), END_WRONG)?;
+        self.enter()
+    }
+
+    /// To a packet and a place in it, counted from its first byte, with the headers up to it tested.
+    fn go_to(&mut self, packet: u64, place: u64) -> Read<()> {
+        must(packet > 0, CUT)?;
+        while self.packet < packet {
+            must(!self.ended && self.end < self.lent.len(), CUT)?;
+            self.enter()?;
+        }
+        let length = HEADER + self.end - self.first;
+        must((HEADER as u64..=length as u64).contains(&place), CUT)?;
+        self.at = self.first + place as usize - HEADER;
+        Ok(())
+    }
+
+    /// After the last DONE: no byte of the payload is left, and no packet.
+    fn close(mut self) -> Read<()> {
+        must(self.at == self.end, WRONG)?;
+        if self.is_over() {
+            return Ok(());
+        }
+        self.read_on()?;
+        Err(WRONG)
+    }
+
+    /// The place in the packet, counted from its first byte.
+    fn place(&self) -> u64 {
+        (HEADER + self.at - self.first) as u64
+    }
+
+    /// The place in the payload.
+    pub fn start(&self) -> u64 {
+        self.before + (self.at - self.first) as u64
+    }
+
+    /// To a place of bytes without packets, which may be one that was passed.
+    pub fn skip_to(&mut self, place: u64) -> Read<()> {
+        must(place <= self.end as u64, CUT)?;
+        self.at = place as usize;
+        Ok(())
+    }
+
+    /// The bytes that are left in the packet.
+    pub fn left(&self) -> u64 {
+        (self.end - self.at) as u64
     }
 
     /// Start and length of so many bytes.
     pub fn part(&mut self, size: u64) -> Read<[u64; 2]> {
-        let start = self.place;
-        must(size <= (self.packet.len() - start) as u64, CUT)?;
-        self.place += size as usize;
-        Ok([start as u64, size])
+        let start = self.start();
+        self.take(size, |_| {})?;
+        Ok([start, size])
+    }
+
+    pub fn number(&mut self, size: u64) -> Read<u64> {
+        let (mut number, mut place) = (0, 0);
+        self.take(size, |bytes| {
+            for byte in bytes {
+                number |= u64::from(*byte) << (8 * place);
+                place += 1;
+            }
+        })?;
+        Ok(number)
+    }
+
+    /// So many bytes, packet by packet.
+    fn take(&mut self, mut size: u64, mut each: impl FnMut(&[u8])) -> Read<()> {
+        while size > 0 {
+            if self.left() == 0 {
+                self.read_on()?;
+            }
+            let taken = size.min(self.left());
+            let next = self.at + taken as usize;
+            each(&self.lent[self.at..next]);
+            self.at = next;
+            size -= taken;
+        }
+        Ok(())
     }
 }

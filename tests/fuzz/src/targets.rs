@@ -3,7 +3,7 @@
 
 use crate::compact::Draw;
 use crate::compare::Check;
-use crate::groups::{header, login, request, result, text};
+use crate::groups::{header, login, packets, request, result, text};
 use crate::procedures;
 use crate::replies;
 use crate::script::records;
@@ -12,8 +12,10 @@ use crate::wall::Wall;
 
 /// script: a script's bytes. records: a script of right lengths, in the compact form. login: a
 /// login's body. request: a body or payload for all other readers. response: a choice and arguments.
-/// steps: a packet, and slots of a position. rpc: a number, and the body of a procedure call.
-pub const NAMES: [&str; 7] = ["script", "records", "login", "request", "response", "steps", "rpc"];
+/// steps: packets, and slots of a position. rpc: a number, and the body of a procedure call. packets: a packet
+/// size, two bytes, and a script of right lengths, in the compact form.
+pub const NAMES: [&str; 8] =
+    ["script", "records", "login", "request", "response", "steps", "rpc", "packets"];
 
 pub struct Target {
     name: &'static str,
@@ -38,9 +40,17 @@ impl Target {
             "request" => read(wall.lend(input)),
             "steps" => steps::compare_one(input, wall),
             "rpc" => procedures::compare_one(input, wall),
+            "packets" => in_packets(input, wall),
             _ => replies::compare_one(input, &mut self.walls),
         }
     }
+}
+
+/// A script's reply in packets of a size, and the reply's payload cut.
+fn in_packets(input: &[u8], wall: &mut Wall) -> Vec<Check> {
+    let mut draw = Draw::new(input);
+    let size = usize::from(draw.u16());
+    packets::compare_one(wall.lend(&records::written(&draw.records())), size)
 }
 
 /// All readers of a client's bytes but the login's.

@@ -12,7 +12,8 @@
         feature = "request",
         feature = "login",
         feature = "result",
-        feature = "response"
+        feature = "response",
+        feature = "packets"
     )),
     allow(dead_code, unused_macros)
 )]
@@ -40,7 +41,7 @@ use std::process::ExitCode;
 use std::time::Instant;
 
 const USAGE: &str = "\
-oracle [quick|large] [header|text|request|login|result|response ..] [seed=N] [trace]
+oracle [quick|large] [header|text|request|login|result|response|packets ..] [seed=N] [trace]
 oracle vectors N [seed=N]
 oracle answers
 oracle tokens N [seed=N]";

@@ -27,3 +27,5 @@ pub const LONG_RESULT: u8 = 17;
 pub const SHORT_BUFFER: u8 = 20;
 pub const ODD_ARGUMENT: u8 = 21;
 pub const ARGUMENT_NOT_UTF16: u8 = 22;
+/// A packet size under 512 or over 32,767 bytes.
+pub const PACKET_SIZE: u8 = 32;

@@ -85,12 +85,15 @@ exports! {
     station_build_query_result(script: bytes, reply: buffer);
     station_build_query_result_with_trailing_info(script: bytes, reply: buffer);
     station_build_query_result_with_extras(script: bytes, reply: buffer);
+    station_build_query_results_in_packets(script: bytes, size: usize, reply: buffer);
     station_room(script: bytes);
     station_fit(script: bytes, out: slots);
     station_fresh(position: slots);
-    station_step(packet: bytes, position: slots, out: slots);
+    station_step(packets: bytes, position: slots, out: slots);
+    station_payload(packets: bytes, buffer: buffer);
 
     "response":
+    station_cut_payload(payload: bytes, size: usize, reply: buffer);
     station_build_prelogin_response(reply: buffer);
     station_build_prelogin_response_with_encryption(encryption: bool, reply: buffer);
     station_build_prelogin_response_with_fedauth(encryption: bool, fedauth: bool, reply: buffer);

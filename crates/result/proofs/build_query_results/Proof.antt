@@ -1,7 +1,7 @@
 -- `result::build_query_results` meets its contract. Assumes nothing.
 use mathlib.Core.Path.{sym, _∙_}
 use denote.Ref.{now}
-use Rattle.result.proofs.Writes.{place-in}
+use Rattle.wire.proofs.Over.{place-in}
 use Rattle.result.proofs.Builds.{short-answer, short-buffer, refused-answer, refused-buffer, written-answer, written-buffer}
 use borrow.Author.Needs.{needs}
 use Rattle.result.proofs.build_query_results.Statement.{statement}

@@ -1,7 +1,8 @@
 -- `result::put_chunks` meets its contract. Assumes nothing.
 use Rattle.emission.proofs.Stops.{stops}
 use Rattle.emission.proofs.Aheads.{ahead-other, ahead-cut, ahead-end}
-use Rattle.result.proofs.Writes.{Owes, chunksLeft, chunks-more, owes-less, owes-last, chunks-none}
+use Rattle.wire.proofs.Over.{Owes, owes-less, owes-last}
+use Rattle.result.proofs.Writes.{chunksLeft, chunks-more, chunks-none}
 use Prim.Native.Nat.{ℕ, _+_, _-_, _≤_}
 use lib.ListN.{length}
 use mathlib.Core.List.{List}

@@ -1,7 +1,8 @@
 -- `result::put_columns` meets its contract. Assumes nothing.
 use Rattle.emission.proofs.Stops.{stops}
 use Rattle.emission.proofs.Aheads.{ahead-other, ahead-cut, ahead-end}
-use Rattle.result.proofs.Writes.{wrote-nothing, place-in, Owes, columnsLeft, columns-more, owes-less, owes-last, columns-none}
+use Rattle.wire.proofs.Over.{wrote-nothing, place-in, Owes, owes-less, owes-last}
+use Rattle.result.proofs.Writes.{columnsLeft, columns-more, columns-none}
 use Prim.Native.Nat.{ℕ, _+_, _-_, _≤_}
 use lib.ListN.{length}
 use mathlib.Core.List.{List}

@@ -7,7 +7,8 @@ use Rattle.script.specs.Records.{recordAt}
 use Rattle.script.proofs.Walk
 use Rattle.emission.specs.Walk.{rowsAfter}
 use Rattle.emission.proofs.Stops.{stops}
-use Rattle.result.proofs.Writes.{Owes, owes-less, owes-last, place-in, recordsLeft, records-more, records-cut, records-end}
+use Rattle.wire.proofs.Over.{Owes, owes-less, owes-last, place-in}
+use Rattle.result.proofs.Writes.{recordsLeft, records-more, records-cut, records-end}
 use mathlib.Core.Path.{_≡_, refl, sym, _∙_}
 use native.Mathlib.Omega.{arith}
 use borrow.Author.Needs.{needs}

@@ -6,7 +6,8 @@ use Rattle.script.specs.Runs.{ahead}
 use mathlib.Core.Path.{ap}
 use Rattle.emission.specs.declared.Run.{Run}
 use Rattle.emission.specs.Runs.{runOf}
-use Rattle.result.proofs.Writes.{put-begins, place-in}
+use Rattle.wire.proofs.Over.{place-in}
+use Rattle.result.proofs.Writes.{put-begins}
 use Rattle.emission.proofs.Turns.{goes-columns}
 use borrow.Author.Needs.{needs}
 use Rattle.result.proofs.put_set.Statement.{statement}

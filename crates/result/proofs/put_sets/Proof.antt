@@ -6,7 +6,8 @@ use lib.ListN.{drop}
 use Rattle.script.specs.Records.{records}
 use Rattle.emission.specs.Walk.{beginPieces, emitFrom}
 use Rattle.emission.specs.Runs.{errorFound}
-use Rattle.result.proofs.Writes.{place-in, put-pieces}
+use Rattle.wire.proofs.Over.{place-in}
+use Rattle.result.proofs.Writes.{put-pieces}
 use borrow.Author.Needs.{needs}
 use Rattle.result.proofs.put_sets.Statement.{statement}
 use Rattle.result.proofs.put_sets.Tie as tie

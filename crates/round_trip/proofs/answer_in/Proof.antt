@@ -11,10 +11,10 @@ use Rattle.round_trip.proofs.answer_in.Statement.{statement}
 use Rattle.round_trip.proofs.answer_in.Tie as tie
 
 abbrev Inv-loop : tie.InvT-loop
-Inv-loop buf len k packet position₀ left₀ position left = answerOf left packet position ≡ answerOf k packet freshPosition
+Inv-loop buf len k packets position₀ left₀ position left = answerOf left packets position ≡ answerOf k packets freshPosition
 
 abbrev μ-loop : tie.MeasureT-loop
-μ-loop buf len k packet position₀ left₀ position left = left
+μ-loop buf len k packets position₀ left₀ position left = left
 
 part-of-requires : tie.Need-part-of-requires Inv-loop μ-loop
 part-of-requires c κs = search needs

@@ -2,6 +2,7 @@
 use native.Mathlib.Omega.{arith}
 use denote.Ref.{now}
 use Rattle.round_trip.proofs.Running.{bytes-known, refused-is, refused-back, answered-is, answered-back}
+use Rattle.round_trip.specs.RoundTrip.{single}
 use borrow.Author.Needs.{needs}
 use Rattle.round_trip.proofs.kth_token.Statement.{statement}
 use Rattle.round_trip.proofs.kth_token.Tie as tie
@@ -26,8 +27,8 @@ returns c =
     let a = c .before .before .before .before .before .before .before .before .before .args in
     let e = c .before .before .before .before .before .build-query-results .ensures in
     let h = c .before .number .given .1 in (
-      refused-is (now (a .script)) (now (a .buf)) (a .k) (e .0) h,
-      (e .1, refused-back (now (a .script)) (now (a .buf)) (a .k) (e .0) h),
+      refused-is single (now (a .script)) (now (a .buf)) (a .k) (e .0) h,
+      (e .1, refused-back single (now (a .script)) (now (a .buf)) (a .k) (e .0) h),
     )
 
 same-length-2 : tie.Need-same-length-2
@@ -39,8 +40,8 @@ returns-2 c =
     let e = c .before .before .before .before .before .before .before .build-query-results .ensures in
     let h = c .before .before .before .len .given .1 in
     let known = bytes-known (now (a .script)) (λ i. omega (arith, c .before .before .before .before .before .before .before .before .before .before .shared-slice-known .given i)) in (
-      answered-is (now (a .script)) (now (a .buf)) (a .k) (e .0) h (e .1) (c .answer-in .ensures),
-      (e .1, answered-back (now (a .script)) (now (a .buf)) (a .k) (e .0) h (e .1) (c .answer-in .ensures) known),
+      answered-is single (now (a .script)) (now (a .buf)) (a .k) (e .0) h (e .1) (c .answer-in .ensures),
+      (e .1, answered-back single (now (a .script)) (now (a .buf)) (a .k) (e .0) h (e .1) (c .answer-in .ensures) known),
     )
 
 pub kth-token-spec : {M : Type 1} → statement M

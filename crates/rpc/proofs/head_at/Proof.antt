@@ -27,8 +27,8 @@ enum-known-n-2 c = search needs
 enum-known-flags : tie.Need-enum-known-flags
 enum-known-flags c = search needs
 
-cast-t12 : tie.Need-cast-t12
-cast-t12 c = omega (arith, below 2 (c .before .before .before .before .u16-at .ensures .1) (c .before .before .flags .given .1))
+cast-t13 : tie.Need-cast-t13
+cast-t13 c = omega (arith, below 2 (c .before .before .before .before .u16-at .ensures .1) (c .before .before .flags .given .1))
 
 returns : tie.Need-returns
 unfolding headAt
@@ -52,7 +52,7 @@ head-at-spec =
     u16-at-requires
     enum-known-n-2
     enum-known-flags
-    cast-t12
+    cast-t13
     returns
     returns-2
     returns-3)

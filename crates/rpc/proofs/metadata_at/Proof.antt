@@ -44,8 +44,8 @@ enum-known-n-4 c = search needs
 enum-known-read : tie.Need-enum-known-read
 enum-known-read c = search needs
 
-cast-t19 : tie.Need-cast-t19
-cast-t19 c = omega (arith, below 1 (c .before .before .before .before .before .before .before .before .before .before .status-at .ensures .1) (c .before .before .before .before .before .before .before .before .n3 .given .1))
+cast-t20 : tie.Need-cast-t20
+cast-t20 c = omega (arith, below 1 (c .before .before .before .before .before .before .before .before .before .before .status-at .ensures .1) (c .before .before .before .before .before .before .before .before .n3 .given .1))
 
 returns-3 : tie.Need-returns-3
 unfolding metadataAt
@@ -70,6 +70,6 @@ metadata-at-spec =
     type-at-requires
     enum-known-n-4
     enum-known-read
-    cast-t19
+    cast-t20
     returns-3
     returns-4)

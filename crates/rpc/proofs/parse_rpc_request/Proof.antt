@@ -5,6 +5,7 @@ use Rattle.refusals.specs.Numbers.{callCut}
 use Rattle.request.proofs.Blocks.{no-block}
 use Rattle.rpc.specs.declared.Rpc.the-variants.{Refused}
 use Rattle.rpc.specs.Rpc.{callAfter, told, rpcOf}
+use Rattle.payload.specs.Places.{bodySource}
 use borrow.Author.Needs.{needs}
 use Rattle.rpc.proofs.parse_rpc_request.Statement.{statement}
 use Rattle.rpc.proofs.parse_rpc_request.Tie as tie
@@ -20,7 +21,7 @@ call-at-requires c κs = search needs
 
 returns : tie.Need-returns
 unfolding rpcOf
-returns c = rw (← c .before .all-headers .ensures) (no-block (λ x. Refused callCut ≡ told (c .before .before .before .args .number) (callAfter (now (c .before .before .before .args .body)) x)) (c .before .all-headers .result) (c .match .keys1) refl refl)
+returns c = rw (← c .before .all-headers .ensures) (no-block (λ x. Refused callCut ≡ told (c .before .before .before .args .number) (callAfter (bodySource (now (c .before .before .before .args .body))) x)) (c .before .all-headers .result) (c .match .keys1) refl refl)
 
 returns-2 : tie.Need-returns-2
 unfolding rpcOf

@@ -31,8 +31,8 @@ enum-known-n-3 c = search needs
 enum-known-n-4 : tie.Need-enum-known-n-4
 enum-known-n-4 c = search needs
 
-cast-t16 : tie.Need-cast-t16
-cast-t16 c = omega (arith, below 2 (c .before .before .before .before .u16-at2 .ensures .1) (c .before .before .n4 .given .1))
+cast-t17 : tie.Need-cast-t17
+cast-t17 c = omega (arith, below 2 (c .before .before .before .before .u16-at2 .ensures .1) (c .before .before .n4 .given .1))
 
 returns-2 : tie.Need-returns-2
 unfolding procedureAt
@@ -73,7 +73,7 @@ procedure-at-spec =
     u16-at-requires-2
     enum-known-n-3
     enum-known-n-4
-    cast-t16
+    cast-t17
     returns-2
     returns-3
     mul-part-at

@@ -2,6 +2,7 @@
 
 pub mod header;
 pub mod login;
+pub mod packets;
 pub mod reply;
 pub mod request;
 pub mod response;

@@ -4,6 +4,8 @@
 pub mod header;
 #[cfg(feature = "login")]
 pub mod login;
+#[cfg(feature = "packets")]
+pub mod packets;
 #[cfg(feature = "request")]
 pub mod request;
 #[cfg(feature = "response")]
@@ -37,7 +39,7 @@ impl Size {
 pub type Group = fn(Size) -> Vec<Check>;
 
 /// All groups by name; those that are not built in have no function.
-pub fn groups() -> [(&'static str, Option<Group>); 6] {
+pub fn groups() -> [(&'static str, Option<Group>); 7] {
     macro_rules! group {
         ($module:ident, $name:literal) => {{
             #[cfg(feature = $name)]
@@ -54,5 +56,6 @@ pub fn groups() -> [(&'static str, Option<Group>); 6] {
         group!(login, "login"),
         group!(result, "result"),
         group!(response, "response"),
+        group!(packets, "packets"),
     ]
 }

@@ -1,6 +1,7 @@
 //! All other replies.
 
 use super::{Vectors, print_built, print_every_lent};
+use crate::answers::packets::payload_in_packets;
 use crate::answers::reply::limited;
 use crate::answers::response::*;
 use crate::hex::packed;
@@ -20,6 +21,22 @@ pub fn print(vectors: Vectors) {
     errors(vectors);
     routes(vectors);
     route_lists(vectors);
+    payloads(vectors);
+}
+
+/// Payloads cut into packets: of k times what a packet holds, one byte less and more; the longest, and
+/// one more; none.
+fn payloads(vectors: Vectors) {
+    let mut random = vectors.random("cut_payload");
+    let lengths = [0, 1, 13, 503, 504, 505, 1_007, 1_008, 1_009, 65_527, 65_528];
+    for length in lengths {
+        for size in [512, 513, 4_096, 32_767, 511, 32_768] {
+            let payload = vec![random.byte(); length];
+            let answer = payload_in_packets(&payload, size);
+            let given = [packed(&payload), size.to_string()];
+            print_built(&mut random, "cut_payload", &given, &answer);
+        }
+    }
 }
 
 fn flag(on: bool) -> String {

@@ -1,6 +1,7 @@
 //! Scripts: the reply builder under its four names, the room estimate, the fit check.
 
 use super::{Vectors, print_built, print_read};
+use crate::answers::packets::reply_in_packets;
 use crate::answers::reply::{accepted, extras, narrow, packet, reply, trailing};
 use crate::hex::{packed, unhex};
 use crate::inputs::script::{SMALL, Shape, damaged, of_shape, random_script};
@@ -11,6 +12,10 @@ use crate::script::fit::{Misfit, misfits};
 use crate::script::records::*;
 
 const COLLATION: [u8; 5] = [0x09, 0x04, 0xD0, 0x00, 0x34];
+
+/// Sizes that can be agreed, and some that cannot.
+const SIZES: [usize; 5] = [512, 513, 600, 4_096, 32_767];
+const OUTSIDE: [usize; 3] = [511, 32_768, 0];
 
 type Build = fn(&Script) -> Answer<Vec<u8>>;
 /// Whether a narrowing of the Rust takes all that the script holds.
@@ -26,6 +31,7 @@ pub fn print(vectors: Vectors) {
     for (name, build, takes) in builders {
         replies(vectors, name, build, takes);
     }
+    in_packets(vectors);
     for script in vectors.inputs("room", cases(), any_script) {
         print_read("room", &script, reply(&script).map(|reply| reply.len()));
     }
@@ -49,6 +55,19 @@ fn replies(vectors: Vectors, name: &str, build: Build, takes: Takes) {
     for script in vectors.inputs(name, cases, random_input) {
         let reply = accepted(&script).and_then(|script| build(&script));
         print_built(&mut random, name, &[packed(&script)], &reply);
+    }
+}
+
+/// The reply in packets: each script at a size that can be agreed, and some at sizes that cannot.
+fn in_packets(vectors: Vectors) {
+    let name = "build_query_results_in_packets";
+    let mut random = vectors.random(name);
+    for (place, script) in vectors.inputs(name, cases(), any_script).iter().enumerate() {
+        let sizes = if place % 16 == 0 { &OUTSIDE[..] } else { &[] };
+        for size in [&[random.pick(&SIZES)], sizes].concat() {
+            let answer = reply_in_packets(script, size);
+            print_built(&mut random, name, &[packed(script), size.to_string()], &answer);
+        }
     }
 }
 

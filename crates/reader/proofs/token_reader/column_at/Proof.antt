@@ -73,11 +73,11 @@ enum-known-n-8 c = search needs
 enum-known-text : tie.Need-enum-known-text
 enum-known-text c = search needs
 
-cast-t32 : tie.Need-cast-t32
-cast-t32 c = omega (arith, below 4 (c .before .before .before .before .before .before .before .before .before .before .before .before .before .before .before .before .before .before .before .before .before .before .before .u32-at .ensures .1) (c .before .before .before .before .before .before .before .before .before .before .before .before .before .before .before .before .before .before .before .before .before .n2 .given .1))
-
 cast-t33 : tie.Need-cast-t33
-cast-t33 c = omega (arith, below 2 (c .before .before .before .before .before .before .before .before .before .before .before .before .before .before .before .before .before .before .before .before .u16-at .ensures .1) (c .before .before .before .before .before .before .before .before .before .before .before .before .before .before .before .before .before .before .n4 .given .1))
+cast-t33 c = omega (arith, below 4 (c .before .before .before .before .before .before .before .before .before .before .before .before .before .before .before .before .before .before .before .before .before .before .before .u32-at .ensures .1) (c .before .before .before .before .before .before .before .before .before .before .before .before .before .before .before .before .before .before .before .before .before .n2 .given .1))
+
+cast-t34 : tie.Need-cast-t34
+cast-t34 c = omega (arith, below 2 (c .before .before .before .before .before .before .before .before .before .before .before .before .before .before .before .before .before .before .before .before .u16-at .ensures .1) (c .before .before .before .before .before .before .before .before .before .before .before .before .before .before .before .before .before .before .n4 .given .1))
 
 returns-5 : tie.Need-returns-5
 unfolding columnAt
@@ -111,7 +111,7 @@ column-at-spec =
     part-at-requires
     enum-known-n-8
     enum-known-text
-    cast-t32
     cast-t33
+    cast-t34
     returns-5
     returns-6)

@@ -43,11 +43,11 @@ enum-known-n-5 c = search needs
 enum-known-count : tie.Need-enum-known-count
 enum-known-count c = search needs
 
-cast-t17 : tie.Need-cast-t17
-cast-t17 c = omega (arith, below 2 (c .before .before .before .before .before .before .before .before .before .before .before .before .u16-at .ensures .1) (c .before .before .before .before .before .before .before .before .before .before .n2 .given .1))
-
 cast-t18 : tie.Need-cast-t18
-cast-t18 c = omega (arith, below 2 (c .before .before .before .before .before .before .before .before .before .u16-at2 .ensures .1) (c .before .before .before .before .before .before .before .n4 .given .1))
+cast-t18 c = omega (arith, below 2 (c .before .before .before .before .before .before .before .before .before .before .before .before .u16-at .ensures .1) (c .before .before .before .before .before .before .before .before .before .before .n2 .given .1))
+
+cast-t19 : tie.Need-cast-t19
+cast-t19 c = omega (arith, below 2 (c .before .before .before .before .before .before .before .before .before .u16-at2 .ensures .1) (c .before .before .before .before .before .before .before .n4 .given .1))
 
 returns-3 : tie.Need-returns-3
 unfolding doneAt
@@ -72,7 +72,7 @@ done-at-spec =
     u64-at-requires
     enum-known-n-5
     enum-known-count
-    cast-t17
     cast-t18
+    cast-t19
     returns-3
     returns-4)

@@ -83,14 +83,14 @@ enum-known-n-9 c = search needs
 enum-known-texts : tie.Need-enum-known-texts
 enum-known-texts c = search needs
 
-cast-t36 : tie.Need-cast-t36
-cast-t36 c = omega (arith, below 4 (c .before .before .before .before .before .before .before .before .before .before .before .before .before .before .before .before .before .before .before .u32-at .ensures .1) (c .before .before .before .before .before .before .before .before .before .before .before .before .before .before .before .before .before .n4 .given .1))
-
 cast-t37 : tie.Need-cast-t37
-cast-t37 c = omega (arith, below 1 (c .before .before .before .before .before .before .before .before .before .before .before .before .before .before .before .before .u8-at .ensures .1) (c .before .before .before .before .before .before .before .before .before .before .before .before .before .before .n6 .given .1))
+cast-t37 c = omega (arith, below 4 (c .before .before .before .before .before .before .before .before .before .before .before .before .before .before .before .before .before .before .before .u32-at .ensures .1) (c .before .before .before .before .before .before .before .before .before .before .before .before .before .before .before .before .before .n4 .given .1))
 
 cast-t38 : tie.Need-cast-t38
-cast-t38 c = omega (arith, below 1 (c .before .before .before .before .before .before .before .before .before .before .before .before .before .u8-at2 .ensures .1) (c .before .before .before .before .before .before .before .before .before .before .before .n8 .given .1))
+cast-t38 c = omega (arith, below 1 (c .before .before .before .before .before .before .before .before .before .before .before .before .before .before .before .before .u8-at .ensures .1) (c .before .before .before .before .before .before .before .before .before .before .before .before .before .before .n6 .given .1))
+
+cast-t39 : tie.Need-cast-t39
+cast-t39 c = omega (arith, below 1 (c .before .before .before .before .before .before .before .before .before .before .before .before .before .u8-at2 .ensures .1) (c .before .before .before .before .before .before .before .before .before .before .before .n8 .given .1))
 
 returns-6 : tie.Need-returns-6
 unfolding messageAt
@@ -126,8 +126,8 @@ message-at-spec =
     texts-at-requires
     enum-known-n-9
     enum-known-texts
-    cast-t36
     cast-t37
     cast-t38
+    cast-t39
     returns-6
     returns-7)

@@ -25,8 +25,8 @@ returns-2 : tie.Need-returns-2
 unfolding metadataAt
 returns-2 c = sym (ap tokenRead (number-got _ _ _ _ (c .before .before .before .before .before .u16-at .ensures .0) (c .before .before .before .n2 .given .1) ∙ must-not _ _ (lt-leb _ _ (c .if1 .taken))))
 
-cast-t10 : tie.Need-cast-t10
-cast-t10 c = search needs
+cast-t11 : tie.Need-cast-t11
+cast-t11 c = search needs
 
 returns-3 : tie.Need-returns-3
 unfolding metadataAt
@@ -35,4 +35,4 @@ returns-3 c = sym (ap tokenRead (number-got _ _ _ _ (c .before .before .before .
 pub metadata-at-spec : {M : Type 1} → statement M
 metadata-at-spec =
     tie.close
-    (tie.spec u16-at-requires enum-known-n returns enum-known-n-2 returns-2 cast-t10 returns-3)
+    (tie.spec u16-at-requires enum-known-n returns enum-known-n-2 returns-2 cast-t11 returns-3)

@@ -62,8 +62,8 @@ enum-known-n-4 c = search needs
 enum-known-line : tie.Need-enum-known-line
 enum-known-line c = search needs
 
-cast-t28 : tie.Need-cast-t28
-cast-t28 c = omega (arith, below 4 (c .before .before .before .before .u32-at .ensures .1) (c .before .before .line .given .1))
+cast-t29 : tie.Need-cast-t29
+cast-t29 c = omega (arith, below 4 (c .before .before .before .before .u32-at .ensures .1) (c .before .before .line .given .1))
 
 returns-4 : tie.Need-returns-4
 unfolding textsAt
@@ -94,6 +94,6 @@ texts-at-spec =
     u32-at-requires
     enum-known-n-4
     enum-known-line
-    cast-t28
+    cast-t29
     returns-4
     returns-5)

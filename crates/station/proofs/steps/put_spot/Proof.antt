@@ -22,7 +22,10 @@ flag-requires : tie.Need-flag-requires
 flag-requires c κs = search needs
 
 slice-write-slots-5 : tie.Need-slice-write-slots-5
-slice-write-slots-5 c = search needs
+slice-write-slots-5 c = simp length-set (omega arith)
+
+slice-write-slots-6 : tie.Need-slice-write-slots-6
+slice-write-slots-6 c = search needs
 
 same-length : tie.Need-same-length
 same-length c = search needs
@@ -41,5 +44,6 @@ put-spot-spec =
     slice-write-slots-4
     flag-requires
     slice-write-slots-5
+    slice-write-slots-6
     same-length
     returns)

@@ -10,6 +10,9 @@ use Rattle.station.proofs.steps.station_fresh.Tie as tie
 array-write-values : tie.Need-array-write-values
 array-write-values c = search needs
 
+array-write-values-2 : tie.Need-array-write-values-2
+array-write-values-2 c = search needs
+
 slice-aggregate-answered : tie.Need-slice-aggregate-answered
 slice-aggregate-answered c = search needs
 
@@ -27,4 +30,4 @@ returns c = let t = c .before .before in
 pub station-fresh-spec : {M : Type 1} → statement M
 station-fresh-spec =
     tie.close
-    (tie.spec array-write-values slice-aggregate-answered answered-requires same-length returns)
+    (tie.spec array-write-values array-write-values-2 slice-aggregate-answered answered-requires same-length returns)

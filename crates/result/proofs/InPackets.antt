@@ -1,0 +1,106 @@
+-- What the builder of packets answers and leaves: from a payload that was written and cut, and from the measure of a script.
+-- Assumes nothing.
+use mathlib.Core.Path.{_≡_, sym, ap, _∙_}
+use mathlib.Core.Bool.{true, false}
+use mathlib.Core.List.{List}
+use Prim.Native.Nat.{ℕ, _+_, _-_, _*_, _≤_, _<_}
+use native.Mathlib.Omega.{arith}
+use lib.Dec.{eqb, ltb}
+use lib.ListN.{length}
+use borrow.Author.Tests.{lt-ltb, le-ltb, ltb-false, eqb-true, eqb-false}
+use Rattle.wire.specs.Over.{Wrote, overwrite}
+use Rattle.wire.proofs.Cases.{by-test}
+use Rattle.packet.specs.Cut.{packetsOf}
+use Rattle.packet.specs.Agreed.{isPacketSize, packetCount, packetsLength, cutLength, cutBuffer}
+use Rattle.packet.proofs.Sizes.{length-packet}
+use Rattle.packet.proofs.Counts.{length-packets}
+use Rattle.packet.proofs.Cutting.{cut-written}
+use Rattle.emission.specs.declared.Measure.the-variants as measure
+use Rattle.emission.specs.Emission.{pieces, bytesIn, replyOf}
+use Rattle.emission.specs.Walk.{walked}
+use Rattle.script.specs.Verdict.{verdictOf}
+use Rattle.emission.specs.Refusal.{faultIn, refusalOf}
+use Rattle.emission.specs.Length.{measureOf}
+use Rattle.emission.proofs.BySets.{by-sets, no-verdict}
+use Rattle.result.specs.declared.Built.{Built}
+use Rattle.result.specs.declared.Built.the-variants.{Written, Refused}
+use Rattle.result.specs.Built.{fitted, leaves, repliesOf, builtInPackets, bufferInPackets}
+use Rattle.result.proofs.Builds.{is-refused, number-is, is-accepted, size-is}
+
+-- a payload of n bytes whose packets have total bytes
+module _ (size : ℕ) (p buf : List ℕ) (some : 9 ≤ size) (total n : ℕ) (t : total ≡ packetsLength size n) (e : n ≡ length p) where
+  long : length (packetsOf size p) ≡ total
+  long = length-packets size p some ∙ rw (t, e)
+
+  pub short : length buf < total → (Refused 20 ≡ fitted (packetsOf size p) (length buf)) × (buf ≡ leaves (fitted (packetsOf size p) (length buf)) (packetsOf size p) buf)
+  short h = let f = lt-ltb (length buf) total h in (rw (long, f), rw (long, f))
+
+  pub above : n ≤ total
+  unfolding packetsLength
+  above = omega arith
+
+  at-is : total - n ≡ packetCount size (length p) * 8
+  unfolding packetsLength
+  at-is = rw (← e) (omega arith)
+
+  pub cut : {k m : List ℕ} {to r : ℕ} → total ≤ length buf → Wrote buf (total - n) p k to → r ≡ cutLength size n (length k) → m ≡ cutBuffer size n k
+      → (Written r ≡ fitted (packetsOf size p) (length buf)) × (m ≡ leaves (fitted (packetsOf size p) (length buf)) (packetsOf size p) buf)
+  cut {k} {m} {r = r} h w a b =
+      let f = le-ltb (length buf) total h in
+      let there : k ≡ overwrite buf (packetCount size (length p) * 8) p = w .0 ∙ ap (λ (i : ℕ). overwrite buf i p) at-is in
+      let same : packetsLength size (length p) ≡ total = rw (← e) (sym t) in
+      let done = cut-written size p buf some (rw same h) in
+      let answer : r ≡ total = rw (e, there) at a ∙ sym (done .0) ∙ same in
+      let left : m ≡ overwrite buf 0 (packetsOf size p) = rw (e, there) at b ∙ done .1 in
+      (rw (long, f, answer), rw (long, f) left)
+
+-- ---- scripts
+
+-- a script that is not refused has a reply that a packet's length field can count
+pub not-long : (s : List ℕ) → refusalOf s ≡ 0 → length (replyOf s) ≤ 65535
+unfolding refusalOf
+not-long s e =
+    by-test (eqb (verdictOf s) 0)
+    (λ t. by-test (eqb (faultIn (pieces s)) 0)
+    (λ u. by-test (ltb 65535 (length (replyOf s))) (λ v. let f : _≡_ {A = ℕ} 17 0 = rw (t, u, v) at e in absurd (omega arith)) (λ v. ltb-false 65535 (length (replyOf s)) v))
+    (λ u. absurd (eqb-false (faultIn (pieces s)) 0 u (rw (t, u) at e))))
+    (λ t. absurd (eqb-false (verdictOf s) 0 t (rw t at e)))
+
+module _ (size : ℕ) (s buf : List ℕ) where
+  pub wrong-size : isPacketSize size ≡ false → (Refused 32 ≡ builtInPackets size s (length buf)) × (buf ≡ bufferInPackets size s buf)
+  unfolding builtInPackets bufferInPackets
+  wrong-size h = (rw h, rw h)
+
+  module _ (ok : isPacketSize size ≡ true) where
+    pub refused : (f : ℕ) → measureOf s ≡ measure.Refused f → (Refused f ≡ builtInPackets size s (length buf)) × (buf ≡ bufferInPackets size s buf)
+    unfolding builtInPackets bufferInPackets
+    refused f e =
+        let no = is-refused s buf f e in
+        let number = number-is s buf f e in
+        (rw (ok, no, number), rw (ok, no))
+
+    module _ (n : ℕ) (e : measureOf s ≡ measure.Size n) where
+      accepted : eqb (refusalOf s) 0 ≡ true
+      accepted = is-accepted s buf n e
+
+      same-bytes : bytesIn (walked s) ≡ bytesIn (pieces s)
+      same-bytes = sym (ap bytesIn (by-sets s (no-verdict s (eqb-true (refusalOf s) 0 accepted))))
+
+      size-of : n ≡ 8 + length (bytesIn (walked s))
+      unfolding replyOf
+      size-of = rw same-bytes (sym (size-is s buf n e) ∙ length-packet (bytesIn (pieces s)))
+
+      pub most-size : n ≤ 65535
+      most-size = rw (size-is s buf n e) at (not-long s (eqb-true (refusalOf s) 0 accepted))
+
+      pub least-size : 8 ≤ n
+      least-size = omega (arith, size-of)
+
+      pub payload-size : n - 8 ≡ length (bytesIn (walked s))
+      payload-size = omega (arith, size-of)
+
+      pub sent : {b : Built} {m : List ℕ} → b ≡ fitted (packetsOf size (bytesIn (walked s))) (length buf)
+          → m ≡ leaves (fitted (packetsOf size (bytesIn (walked s))) (length buf)) (packetsOf size (bytesIn (walked s))) buf
+          → (b ≡ builtInPackets size s (length buf)) × (m ≡ bufferInPackets size s buf)
+      unfolding builtInPackets bufferInPackets repliesOf
+      sent a b = (rw (ok, accepted) (rw same-bytes at a), rw (ok, accepted) (rw same-bytes at b))
