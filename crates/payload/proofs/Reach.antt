@@ -1,12 +1,12 @@
 -- The packet of a payload place, from a frame on: what it tells of the bytes that are read there. Assumes nothing.
 use mathlib.Core.Path.{_≡_, refl, sym, ap, _∙_}
 use mathlib.Core.List.{List, [], _∷_, _++_}
-use mathlib.Core.Bool.{Bool, true, false, cond, _&&_}
+use mathlib.Core.Bool.{Bool, true, false, cond, not, _&&_}
 use Prim.Native.Nat.{ℕ, zero, suc, _+_, _-_, _*_, _≤_, _<_}
 use native.Mathlib.Omega.{arith}
 use lib.Dec.{leb, eqb}
 use lib.ListN.{length, take, drop, getD, length-drop}
-use borrow.Author.Tests.{le-leb, lt-leb, leb-true, leb-false, eqb-true}
+use borrow.Author.Tests.{le-leb, lt-leb, leb-true, leb-false, eqb-true, not-false}
 use Rattle.wire.proofs.Cases.{split, by-test}
 use Rattle.wire.specs.Le.{leAt}
 use Rattle.wire.proofs.Le.{le-one}
@@ -320,23 +320,23 @@ module _ (l : List ℕ) (f : Frame) (k at : ℕ) where
       → part.Whole (record { part = record { start = at; len = k }; next = at + k }) ≡ partRead (partAt k (sourceFrom l f) at whole)
   part-reached q = part-stands k (sourceFrom l f) at (le-leb (at + k) (length (sourceFrom l f .bytes)) (reach-long l f (at + k) q .0))
 
-  -- in the frame itself, where it was tested
-  module _ (t : (lies l f && leb (at + k) (f .end)) ≡ true) where
-    tested : (lies l f ≡ true) × (at + k ≤ f .end)
-    tested = let w = and-true (lies l f) (leb (at + k) (f .end)) t in (w .0, leb-true (at + k) (f .end) (w .1))
+-- in the frame itself, where a test b says that the frame holds them
+module _ (l : List ℕ) (f : Frame) (k at : ℕ) {b : Bool} (e : b ≡ (lies l f && leb (at + k) (f .end))) (t : not b ≡ false) where
+  tested : (lies l f ≡ true) × (at + k ≤ f .end)
+  tested = let w = and-true (lies l f) (leb (at + k) (f .end)) (sym e ∙ not-false b t) in (w .0, leb-true (at + k) (f .end) (w .1))
 
-    -- its bytes are lent
-    pub held-within : at + k + 8 * f .number ≤ length l
-    held-within = let w = tested in let x = lying l f (w .0) in let y = w .1 in omega arith
+  -- its bytes are lent
+  pub held-within : at + k + 8 * f .number ≤ length l
+  held-within = let w = tested in let x = lying l f (w .0) in let y = w .1 in omega arith
 
-    pub number-held : {v : ℕ} → v ≡ leAt k (drop (at + 8 * f .number) l)
-        → number.Whole (record { value = v; next = at + k }) ≡ numberRead (numberAt k (sourceFrom l f) at whole)
-    number-held e =
-        let w = tested in
-        let h = number-here l f k at (w .0) (w .1) in
-        number-stands k (sourceFrom l f) at (le-leb (at + k) (length (sourceFrom l f .bytes)) (h .0)) (e ∙ sym (h .1))
+  pub number-held : {v : ℕ} → v ≡ leAt k (drop (at + 8 * f .number) l)
+      → number.Whole (record { value = v; next = at + k }) ≡ numberRead (numberAt k (sourceFrom l f) at whole)
+  number-held q =
+      let w = tested in
+      let h = number-here l f k at (w .0) (w .1) in
+      number-stands k (sourceFrom l f) at (le-leb (at + k) (length (sourceFrom l f .bytes)) (h .0)) (q ∙ sym (h .1))
 
-    pub part-held : part.Whole (record { part = record { start = at; len = k }; next = at + k }) ≡ partRead (partAt k (sourceFrom l f) at whole)
-    part-held =
-        let w = tested in
-        part-stands k (sourceFrom l f) at (le-leb (at + k) (length (sourceFrom l f .bytes)) (number-here l f k at (w .0) (w .1) .0))
+  pub part-held : part.Whole (record { part = record { start = at; len = k }; next = at + k }) ≡ partRead (partAt k (sourceFrom l f) at whole)
+  part-held =
+      let w = tested in
+      part-stands k (sourceFrom l f) at (le-leb (at + k) (length (sourceFrom l f .bytes)) (number-here l f k at (w .0) (w .1) .0))

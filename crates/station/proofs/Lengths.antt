@@ -1,6 +1,6 @@
 -- How long replies are: the bytes that a builder wrote, and room for a reply, are numbers that an i64 holds. Assumes nothing.
 use Prim.Native.Nat.{ℕ, zero, suc, _+_, _^_, _<_, _≤_}
-use mathlib.Core.Path.{_≡_, refl, sym, _∙_}
+use mathlib.Core.Path.{_≡_, refl, sym, ap, _∙_}
 use mathlib.Core.Bool.{true, not, _&&_}
 use mathlib.Core.List.{List}
 use native.Mathlib.Omega.{arith}
@@ -24,7 +24,7 @@ use Rattle.result.specs.declared.Built.the-variants.{Written, Refused}
 use Rattle.result.specs.declared.Room.the-variants.{Bytes, Refused as RoomRefused}
 use Rattle.wire.proofs.Cases.{by-test}
 use Rattle.station.specs.Answer.{refuses, numberOf}
-use Rattle.station.specs.Results.{roomTold}
+use Rattle.station.specs.Results.{builtOutcome, roomTold}
 
 -- a builder writes no more than the bytes that are lent
 abbrev Within : ℕ → Built → Type 0
@@ -45,11 +45,19 @@ within-packets size s n =
     (λ o. by-test (eqb (refusalOf s) 0) (λ t. rw (o, t) (fits-within (repliesOf size s) n)) (λ t. rw (o, t) refl))
     (λ o. rw o refl)
 
-pub lies-within : (s : List ℕ) (n : ℕ) {b : Built} → b ≡ builtOf s n → Within n b
-lies-within s n e = rw e (within s n)
+-- so its answer is small
+short : (n k : ℕ) {b : Built} → n < 2 ^ 63 → Within n b → b ≡ Written k → k < 2 ^ 63
+short n k h w e = let l : k ≤ n = rw e at w in omega arith
 
-pub packets-within : (size : ℕ) (s : List ℕ) (n : ℕ) {b : Built} → b ≡ builtInPackets size s n → Within n b
-packets-within size s n e = rw e (within-packets size s n)
+pub fits : {b : Built} (s : List ℕ) (n : ℕ) → n < 2 ^ 63 → b ≡ builtOf s n → (k : ℕ) → b ≡ Written k → k < 2 ^ 63
+fits s n h e k q = short n k h (within s n) (sym e ∙ q)
+
+pub fits-in-packets : {b : Built} (size : ℕ) (s : List ℕ) (n : ℕ) → n < 2 ^ 63 → b ≡ builtInPackets size s n → (k : ℕ) → b ≡ Written k → k < 2 ^ 63
+fits-in-packets size s n h e k q = short n k h (within-packets size s n) (sym e ∙ q)
+
+-- and its number is told
+pub built : {b c : Built} {r : ℤ} → mag r < 2 ^ 63 → b ≡ c → r ≡ numberOf (builtOutcome b) → toZ w64 (ofZ w64 r) ≡ numberOf (builtOutcome c)
+built fit e q = toZ-ofZ {w = w64} (record { sfits = fit }) ∙ q ∙ ap (λ (x : Built). numberOf (builtOutcome x)) e
 
 -- room for it
 pub room-short : (s : List ℕ) (n : ℕ) → isRoom s (Bytes n) ≡ true → n ≤ 65567

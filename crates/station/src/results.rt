@@ -1,11 +1,12 @@
 // Replies to scripts: the reply builder under its four names and in packets, the room estimate and the fit check.
 ghost use mathlib.Core.Path.{_≡_};
 ghost use mathlib.Core.Bool.{true};
+ghost use Prim.Native.Nat.{ℕ, _<_, _^_};
 ghost use lib.ListN.{length};
 ghost use Rattle.result.specs.Built.{bufferOf, bufferInPackets};
 ghost use Rattle.result.specs.Room.{isRoom};
 ghost use Rattle.station.specs.Answer.{numberOf, answerOf, slotsOf};
-ghost use Rattle.station.specs.Results.{builtCall, inPacketsCall, roomTold, misfitOutcome, fitCall};
+ghost use Rattle.station.specs.Results.{builtOutcome, builtCall, inPacketsCall, roomTold, misfitOutcome, fitCall};
 use crate::slots::answered;
 use crate::slots::refused;
 use fit::Fit;
@@ -13,16 +14,24 @@ use fit::Misfit;
 use result::Built;
 use result::Room;
 
+// The bytes that a builder wrote, or its refusal.
+fn bytes_written(built: Built) -> i64
+    requires { ⌜ ((n : ℕ) → built ≡ Built.Written n → n < 2 ^ 63) ⌝ }
+    ensures { λ r. ⌜ r ≡ numberOf (builtOutcome built) ⌝ }
+{
+    match built {
+        Built::Written(n) => n as i64,
+        Built::Refused(number) => refused(number),
+    }
+}
+
 // The bytes written of a script's reply.
 #[no_mangle]
 pub extern "C" fn station_build_query_results(script: &[u8], buf: &mut [u8]) -> i64
     ensures { λ r. ⌜ r ≡ numberOf (builtCall (now (script .entry)) (length (now (buf .entry)))) ⌝ }
     ensures { λ _. ⌜ now (buf .exit) ≡ bufferOf (now (script .entry)) (now (buf .entry)) ⌝ }
 {
-    match result::build_query_results(script, buf) {
-        Built::Written(length) => length as i64,
-        Built::Refused(number) => refused(number),
-    }
+    bytes_written(result::build_query_results(script, buf))
 }
 
 // The Rust's narrowings.
@@ -63,10 +72,7 @@ pub extern "C" fn station_build_query_results_in_packets(
     ensures { λ r. ⌜ r ≡ numberOf (inPacketsCall size (now (script .entry)) (length (now (buf .entry)))) ⌝ }
     ensures { λ _. ⌜ now (buf .exit) ≡ bufferInPackets size (now (script .entry)) (now (buf .entry)) ⌝ }
 {
-    match result::build_query_results_in_packets(script, size, buf) {
-        Built::Written(length) => length as i64,
-        Built::Refused(number) => refused(number),
-    }
+    bytes_written(result::build_query_results_in_packets(script, size, buf))
 }
 
 // Room to lend for a script's reply: at least its length, and at most 32 more.

@@ -2,7 +2,6 @@
 use mathlib.Core.Path.{sym, _∙_}
 use mathlib.Core.Logic.{⊎-elim}
 use native.Mathlib.Omega.{arith}
-use borrow.Author.Tests.{not-false}
 use Rattle.payload.proofs.Reach.{part-past, part-reached, part-held, reach-long, held-within}
 use borrow.Author.Needs.{needs}
 use Rattle.payload.proofs.part_at.Statement.{statement}
@@ -27,14 +26,14 @@ add-t10 : tie.Need-add-t10
 add-t10 c =
     ⊎-elim
     (λ w. omega (arith, reach-long _ _ _ (sym (w .1 .ensures) ∙ w .3 .given .1) .1))
-    (λ w. omega (arith, held-within _ _ _ _ (sym (c .before .holds .ensures) ∙ not-false _ (w .left))))
+    (λ w. omega (arith, held-within _ _ _ _ (c .before .holds .ensures) (w .left)))
     (c .if1 .came)
 
 returns-2 : tie.Need-returns-2
 returns-2 c =
     ⊎-elim
     (λ w. part-reached _ _ _ _ (sym (w .1 .ensures) ∙ w .3 .given .1))
-    (λ w. part-held _ _ _ _ (sym (c .before .holds .ensures) ∙ not-false _ (w .left)))
+    (λ w. part-held _ _ _ _ (c .before .holds .ensures) (w .left))
     (c .if1 .came)
 
 pub part-at-spec : {M : Type 1} → statement M
