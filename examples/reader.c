@@ -154,9 +154,13 @@ static void print_message(const uint64_t *out)
 
 static void print_done(const uint64_t *out)
 {
-    printf("done rows %" PRIu64 " status %04" PRIX64 "%s%s\n", out[STATION_DONE_COUNT], out[STATION_DONE_STATUS],
-           out[STATION_DONE_STATUS] & STATION_DONE_ERROR ? ", after an error" : "",
-           out[STATION_DONE_STATUS] & STATION_DONE_MORE ? ", more follows" : "");
+    uint64_t status = out[STATION_DONE_STATUS];
+
+    printf("done");
+    if (status & STATION_DONE_COUNT_VALID)
+        printf(" rows %" PRIu64, out[STATION_DONE_COUNT]);
+    printf(" status %04" PRIX64 "%s%s\n", status, status & STATION_DONE_ERROR ? ", after an error" : "",
+           status & STATION_DONE_MORE ? ", more follows" : "");
 }
 
 static void print_token(const uint64_t *out)

@@ -29,7 +29,7 @@ extern "C" {
 #endif
 
 /* The version of these calls (CHANGELOG.md). An answer that changes changes the version. */
-#define STATION_VERSION_MAJOR 2
+#define STATION_VERSION_MAJOR 3
 #define STATION_VERSION_MINOR 0
 
 /* The most bytes of a reply, and of a reply in packets: a `buf` of so many is never too short. */
@@ -391,8 +391,9 @@ int64_t station_fresh(uint64_t *position, size_t position_len);
 #define STATION_DONE_COMMAND 2
 #define STATION_DONE_COUNT 3
 
-#define STATION_DONE_MORE 0x0001  /* a bit of the status: a set follows */
-#define STATION_DONE_ERROR 0x0002 /* a bit of the status: an error came before */
+#define STATION_DONE_MORE 0x0001        /* a bit of the status: a set follows */
+#define STATION_DONE_ERROR 0x0002       /* a bit of the status: an error came before */
+#define STATION_DONE_COUNT_VALID 0x0010 /* a bit of the status: the count is valid, that of the rows of the set that ends */
 
 #define STATION_TOKEN_ERROR 0xAA /* and STATION_TOKEN_INFO */
 #define STATION_TOKEN_INFO 0xAB
@@ -466,7 +467,7 @@ int64_t station_build_fedauth_info_token(const uint8_t *sts_url, size_t sts_url_
  */
 int64_t station_build_login_ack(uint8_t *buf, size_t buf_len);
 
-/* Token: DONE with a status, and with status 0, that of a reply's last one. */
+/* Token: DONE with a status, and with status 0: nothing follows, and the row count is not said to be valid. */
 int64_t station_build_done_token_with_status(uint16_t status, uint64_t row_count, uint8_t *buf, size_t buf_len);
 int64_t station_build_done_token(uint64_t row_count, uint8_t *buf, size_t buf_len);
 

@@ -8,7 +8,7 @@
 // Every edition takes this file from Rust 1.82 on. For an older compiler leave out the word `unsafe` before `extern`. A
 // call is unsafe, because nothing checks that a pointer is valid for the length that follows it.
 
-pub const STATION_VERSION_MAJOR: u32 = 2;
+pub const STATION_VERSION_MAJOR: u32 = 3;
 pub const STATION_VERSION_MINOR: u32 = 0;
 pub const STATION_MOST_REPLY: usize = 65535;
 pub const STATION_MOST_PACKETS: usize = 66575;
@@ -226,6 +226,7 @@ pub const STATION_DONE_COUNT: usize = 3;
 
 pub const STATION_DONE_MORE: u64 = 0x0001;
 pub const STATION_DONE_ERROR: u64 = 0x0002;
+pub const STATION_DONE_COUNT_VALID: u64 = 0x0010;
 
 pub const STATION_TOKEN_ERROR: u64 = 0xAA;
 pub const STATION_TOKEN_INFO: u64 = 0xAB;

@@ -1,7 +1,7 @@
 #!/usr/bin/env python3
 """A unit to connect to: answers TDS clients on 127.0.0.1, each batch and each call with the reply of a script.
 
-    tools/serve.py [--port N] [--journal FILE] [--capture FILE] [--route] [--counted] SCRIPT..
+    tools/serve.py [--port N] [--journal FILE] [--capture FILE] [--route] SCRIPT..
 
 SCRIPT is a text as `tools/script.py compose` takes it, or, where its name ends in `.script`, a script's bytes. A
 script that is refused is named with the number and ends this with status 1. One that does not fit is served with a
@@ -26,8 +26,6 @@ What no script answers gets a set without columns. A request that is refused, or
     --journal FILE   requests go to FILE, a line of JSON each, and not to standard output
     --capture FILE   what was said goes to FILE, too, as a capture for Wireshark and tshark
     --route          a login is routed to a second port, and accepted there
-    --counted        for tests: where a batch has the word `counted`, the last DONE of the reply gets status bit 0010,
-                     without which clients do not believe its row count; that bit is not the library's
 
 The exit status is 0 after Ctrl-C, 1 where it cannot serve, and 2 for a wrong command.
 """
@@ -61,12 +59,10 @@ CASE_PART, CASE_MAX = 2, 3
 TRANSACTIONS = {5: "begin", 7: "commit", 8: "rollback"}
 HEADER = 8
 SET, FEATURE, UTF8_SUPPORT = 0x0001, 0x0013, 0x0A
-DONE_LENGTH, DONE_COUNT = 13, 0x10
 # The packet size that the login's acknowledgement agrees.
 AGREED = 4_096
 WITHOUT_HEADERS = struct.pack("<I", 4)
 NUMBERED = re.compile(r"\bscript ([0-9]{1,9})\b", re.I)
-COUNTED = re.compile(r"\bcounted\b")
 SETUP = re.compile(r"(set|use|begin|commit|rollback)\b|select\s+@@|if\s+@@", re.I)
 MOST_SHOWN = 60
 MISFITS = {1: "the classification bytes of set {1}", 2: "column {3} of set {1}", 3: "cell {3} in row {2} of set {1}"}
@@ -132,12 +128,6 @@ def chosen(scripts, said):
         if re.search(rf"(?<![\w-]){re.escape(script.name)}(?![\w-])", said, re.I):
             return i
     return 0 if len(scripts) == 1 else None
-
-
-def counted(reply):
-    """A reply whose last DONE, which it ends with, says that its row count is valid."""
-    at = len(reply) - DONE_LENGTH + 1
-    return reply[:at] + bytes([reply[at] | DONE_COUNT]) + reply[at + 1:]
 
 
 def called(body, slots):
@@ -252,8 +242,7 @@ class Conversation(socketserver.BaseRequestHandler):
         number = None if said is None else chosen(self.server.scripts, said)
         if number is None:
             return None, self.station.written("build_query_results", record(SET))
-        reply = self.server.scripts[number].reply
-        return number, counted(reply) if self.server.counts and COUNTED.search(said) else reply
+        return number, self.server.scripts[number].reply
 
     def procedure_call(self, body):
         _, slots = self.station.numbers("parse_rpc_request", RPC_SLOTS, body, FIRST)
@@ -279,8 +268,7 @@ class Server(socketserver.ThreadingTCPServer):
     def __init__(self, port, station, scripts, options, journal, onward=0):
         super().__init__((HOST, port), Conversation)
         self.station, self.scripts, self.journal, self.onward = station, scripts, journal, onward
-        self.counts, self.capture = options.counted, options.capture
-        self.port = self.server_address[1]
+        self.port, self.capture = self.server_address[1], options.capture
 
     def start(self):
         threading.Thread(target=self.serve_forever, daemon=True).start()
@@ -332,7 +320,6 @@ def parsed(arguments):
     parser.add_argument("--journal")
     parser.add_argument("--capture")
     parser.add_argument("--route", action="store_true")
-    parser.add_argument("--counted", action="store_true")
     parser.add_argument("scripts", nargs="*", type=pathlib.Path)
     options = parser.parse_args(arguments)
     if options.help:

@@ -4,14 +4,15 @@
     col 0 0000 26 4 - 6E00               column Int "n"
     D1                                 ROW
     num 7                                cell Int 7
-    FD 0000 00C1 1                     DONE: status 0000, final; 1 row
+    FD 0010 00C1 1                     DONE: status 0010, final, row count valid; 1 row
 """
 import script
 from reasons import cause, counted
 
 TYPES = {("26", 1): "TinyInt", ("26", 2): "SmallInt", ("26", 4): "Int", ("26", 8): "BigInt", ("E7", 8000): "NVarChar",
          ("E7", 65535): "NVarCharMax", ("A7", 65535): "VarCharMax", ("A5", 65535): "VarBinaryMax"}
-MORE, ERROR = 0x0001, 0x0002
+MORE, ERROR, COUNT = 0x0001, 0x0002, 0x0010
+KNOWN = MORE | ERROR | COUNT
 COMMAND = "00C1"
 # A longer value is cut here.
 MOST_SHOWN = 200
@@ -54,7 +55,8 @@ def done_words(status, command, count):
     bits = int(status, 16)
     words = ["error"] if bits & ERROR else []
     words.append("more follows" if bits & MORE else "final")
-    words += [f"other bits {bits & ~3:04X}"] if bits & ~3 else []
+    words += ["row count valid"] if bits & COUNT else []
+    words += [f"other bits {bits & ~KNOWN:04X}"] if bits & ~KNOWN else []
     words += [f"command {command}"] if command != COMMAND else []
     return f"DONE: status {status}, {', '.join(words)}; {counted(int(count), 'row')}"
 

@@ -1,5 +1,6 @@
 //! Replies to scripts: rows of one kind, as many as there is room for.
 
+use crate::answers::counted::counted;
 use crate::answers::packets::{HEADER, joined};
 use crate::cases::{Case, Outcome, SIZES, Side};
 use crate::protocol;
@@ -7,6 +8,7 @@ use crate::query_response::{
     ColumnDefinition, ColumnValue, QueryResponse, Row, SqlDataType, SqlDataType::*,
 };
 use crate::region::Measure;
+use crate::script::decode;
 use crate::script::records::{Record, cell, chunk, column, row, set, written};
 use crate::utf16;
 use bytes::BytesMut;
@@ -78,13 +80,16 @@ fn in_packets(response: QueryResponse, size: usize, measure: Measure) -> Option<
     Some(Outcome { input: script.len(), answer, time })
 }
 
+/// The reply on a side; of the Rust's the status of its DONE is what ours must be, which is no part of the
+/// time.
 fn reply(response: QueryResponse, side: Side, measure: Measure) -> Option<Outcome> {
     let script = script(&response);
     let (answer, time) = match side {
         Side::Ours => ours(&script, measure)?,
         Side::Rust => {
             let (reply, time) = measure.of(|| build(&response));
-            (reply.to_vec(), time)
+            let decoded = decode(&script).expect("the script is good");
+            (counted(&decoded, reply.to_vec()), time)
         }
     };
     Some(Outcome { input: script.len(), answer, time })

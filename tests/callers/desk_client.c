@@ -62,6 +62,8 @@ static void sets_of(size_t length)
     printf("%d:", (int)answer);
     for (i = 0; i < answer && i < MOST_SETS; i++) {
         printf("%s%u", i == 0 ? " " : ", ", (unsigned)sets[i].rows);
+        if (!sets[i].is_counted)
+            printf(", not counted");
         if (sets[i].rows != sets[i].counted || sets[i].is_last != (i == answer - 1))
             printf(" (DONE counts %u, last %d)", (unsigned)sets[i].counted, sets[i].is_last);
     }

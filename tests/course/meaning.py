@@ -160,7 +160,7 @@ def set_tokens(records, trailing, last):
     columns = [column_token(words) for name, words in records if name == "column"]
     infos = [info_token(words) for name, words in records if name == "info"]
     rows = sum(name == "row" for name, _ in records)
-    done = f"FD {'0000' if last else '0001'} 00C1 {rows}"
+    done = f"FD {'0010' if last else '0011'} 00C1 {rows}"
     return [f"81 {len(columns)}", *columns, *infos, *row_tokens(records), *(trailing if last else []), done]
 
 

@@ -21,7 +21,8 @@ CASE = re.compile(r"^=== (.*)\n((?:(?!---).*\n)*?)--- (\d)\n((?:(?!===).*\n)*)",
 MESSAGE = re.compile(r"(INFO|ERROR) (\d+): state (\d+), severity (\d+), line (\d+)")
 NAMED_TEXT = re.compile(r"(message|server|procedure) (" + meaning.TEXT.pattern + ")")
 DONE = re.compile(r"DONE: status (\d{4}), (.*); (\d+) rows?")
-STATUSES = {"0000": "final", "0001": "more follows", "0002": "error, final", "0003": "error, more follows"}
+STATUSES = {"0010": "final, row count valid", "0011": "more follows, row count valid", "0002": "error, final",
+            "0003": "error, more follows"}
 NAME = "a script"
 
 

@@ -8,8 +8,8 @@ nothing where there are none.
 
 pymssql tells names, kinds of types, values, and messages without their numbers; an error's number is the
 exception's. It shows no set without columns. At an error it withdraws the batch by an attention, so that nothing is
-shown of the sets after a leading error. Its `rowcount` is that of the DONE where the status has bit 0010 (MS-TDS
-2.2.7.6), else -1.
+shown of the sets after a leading error. Its `rowcount` is that of the DONE, since the status has bit 0010 (MS-TDS
+2.2.7.6; without it -1): it must be the number of rows of the set.
 
 Two things are not in the scripts for these conversations. FreeTDS takes a message of a severity over 10 for an
 error, whatever its token, so infos have up to 10 and errors over 10. And FreeTDS 1.3.17 ends the connection at a
@@ -159,8 +159,8 @@ def pymssql_expected(tokens):
     if errors:
         yield "error", errors[0][1]
         return
-    for columns, rows, done in scripts.sets(tokens):
+    for columns, rows in scripts.sets(tokens):
         if columns:
             yield "set", *((name, KINDS[code]) for name, code in columns)
             yield from (("row", *row) for row in rows)
-            yield "count", scripts.believed(done)
+            yield "count", len(rows)

@@ -1,9 +1,10 @@
 """Replies read by pytds (Debian's python3-tds): packets, which its session reads from a transport that holds their
 bytes, and whole conversations with a unit, in transactions.
 
-In a conversation pytds tells all sets and messages, and of each set the row count where the DONE's status has bit
-0010 (MS-TDS 2.2.7.6), else -1. It holds a packet in a buffer of the size that the login agreed, 4,096 bytes, and
-fails at a longer one: the unit sends packets of that size. For a reply in one packet the buffer is made longer here.
+In a conversation pytds tells all sets and messages, and of each set the DONE's row count, since the status has bit 0010
+(MS-TDS 2.2.7.6; without it -1): it must be the number of rows of the set. pytds holds a packet in a buffer of the size
+that the login agreed, 4,096 bytes, and fails at a longer one: the unit sends packets of that size. For a reply in one
+packet the buffer is made longer here.
 """
 import re
 import types
@@ -172,7 +173,7 @@ def conversation_expected(tokens):
     for token in tokens:
         if token[0] == "error":
             yield "error", token[1]
-    for columns, rows, done in scripts.sets(tokens):
+    for columns, rows in scripts.sets(tokens):
         yield "set", *(name for name, _ in columns)
         yield from (("row", *row) for row in rows)
-        yield "count", scripts.believed(done)
+        yield "count", len(rows)

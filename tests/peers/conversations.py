@@ -22,8 +22,7 @@ CLIENTS = (
 # What trimming removes (document 01, 'Requests and logins'); of a range both ends.
 WHITE = "\t\n\v\f\r \x85\xA0\u1680\u2000\u200A\u2028\u2029\u202F\u205F\u3000"
 # What follows the script's number in a batch; the last makes a request of two packets.
-COUNTED = " counted"
-REMARKS = ("", COUNTED, COUNTED + " -- é中😀", " -- " + "word " * 500 + ".")
+REMARKS = ("", " -- é中😀", " -- " + "word " * 500 + ".")
 WITHDRAWN = 10
 OUTSIDE, INSIDE = [0, 1], [1, 1]
 BEGIN, COMMIT, ROLLBACK = 5, 7, 8
@@ -53,16 +52,8 @@ def hold(client, source, made):
     with unit.running([script for script, _ in made]) as served:
         told = client.talk(served.port, sent, withdrawn)
         journal = served.journal()
-    expected = [list(client.expected(answer(text, tokens))) for text, (_, tokens) in zip(sent, made)]
+    expected = [list(client.expected(tokens)) for _, tokens in made]
     return zip(expected, told, strict=True), (list(requests(client, sent, withdrawn)), list(read(journal, withdrawn)))
-
-
-def answer(text, tokens):
-    """The tokens that answer a batch: the script's, where it asks for it with a last DONE whose row count is valid."""
-    if COUNTED not in text:
-        return tokens
-    word, status, *rest = tokens[-1]
-    return [*tokens[:-1], (word, status | scripts.DONE_COUNT, *rest)]
 
 
 def requests(client, sent, withdrawn):

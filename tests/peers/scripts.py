@@ -1,4 +1,5 @@
-"""Scripts that fit, and the tokens that they emit, from document 01 ('The script', 'What a script emits').
+"""Scripts that fit, and the tokens that they emit, from document 01 ('The script', 'What a script emits') and the status
+of a set's DONE from document 02, 2026-03.
 
 A token is a tuple: ('columns', count); ('column', user type, flags, code, length, collation, name); ('error' or
 'info', number, state, severity, message, server, procedure, line); ('row', values); ('done', status, command,
@@ -16,7 +17,8 @@ WITH_COLLATION = (5, 6, 7)
 # Latin1_General: texts of one byte a character are read by it.
 LATIN = bytes([0x09, 0x04, 0xD0, 0x00, 0x34])
 SELECT = 0x00C1
-DONE_COUNT = 0x0010
+# The status of a set's DONE: bit 0010, its row count is valid, and bit 0001 where a set follows.
+LAST, MORE = 0x0010, 0x0011
 # The database that a client asks for; pymssql takes ASCII alone.
 DATABASE = "station 7"
 LETTERS = "abcXYZ 019_-é€Ωж中あ"
@@ -136,7 +138,7 @@ class Script:
             for _ in range(source.choice((0, 0, 1, 3))):
                 self.info(TRAILING)
         count = sum(token[0] == "row" for token in self.tokens[start:])
-        self.tokens.append(("done", 0x0000 if last else 0x0001, SELECT, count))
+        self.tokens.append(("done", LAST if last else MORE, SELECT, count))
 
     def rows(self, types, count):
         for _ in range(count):
@@ -172,7 +174,7 @@ def value(code, held):
 
 
 def sets(tokens):
-    """The sets among tokens: names and codes of the columns, rows of values, and the DONE."""
+    """The sets among tokens: names and codes of the columns, and rows of values."""
     columns = None
     for token in tokens:
         if token[0] == "columns":
@@ -182,12 +184,7 @@ def sets(tokens):
         elif token[0] == "row":
             rows.append(tuple(value(code, held) for (_, code), held in zip(columns, token[1:])))
         elif token[0] == "done" and columns is not None:
-            yield columns, rows, token
-
-
-def believed(done):
-    """The row count of a DONE where its status says that it is valid (MS-TDS 2.2.7.6), else -1, as clients say."""
-    return done[3] if done[1] & DONE_COUNT else -1
+            yield columns, rows
 
 
 def long_scripts():
@@ -200,14 +197,14 @@ def long_scripts():
     held = "é中".encode("utf-16-le") * 2000
     script = record(SET) + text_column + note + record(ROW) + record(CELL, b"\5" + held)
     start = ("columns", 1), ("column", 0, 0, 0xE7, 8000, LATIN, wide), ("info", 1, 2, 3, said, wide, wide, 4)
-    yield script, [*start, ("row", held), ("done", 0, SELECT, 1)]
+    yield script, [*start, ("row", held), ("done", LAST, SELECT, 1)]
     for type_byte, unit in ((6, b"x\0"), (7, b"x"), (8, b"\xFF")):
         held = unit * 10000
         collation = LATIN if type_byte in WITH_COLLATION else b""
         script = record(SET) + record(COLUMN, bytes([type_byte]) + LATIN) + record(ROW)
         script += record(CELL, bytes([MAX_VALUES[type_byte]])) + record(CHUNK, held) + record(CHUNK, unit)
         column = ("column", 0, 0, *TYPES[type_byte], collation, b"")
-        yield script, [("columns", 1), column, ("row", held + unit), ("done", 0, SELECT, 1)]
+        yield script, [("columns", 1), column, ("row", held + unit), ("done", LAST, SELECT, 1)]
 
 
 def longest_scripts():
@@ -215,7 +212,7 @@ def longest_scripts():
     held, rows = b"x" * 65_484, 21_834
     column = ("column", 0, 0, *TYPES[8], b"", b"")
     script = record(SET) + record(COLUMN, b"\x08" + LATIN) + record(ROW) + record(CELL, b"\x09") + record(CHUNK, held)
-    yield script, [("columns", 1), column, ("row", held), ("done", 0, SELECT, 1)]
+    yield script, [("columns", 1), column, ("row", held), ("done", LAST, SELECT, 1)]
     column = ("column", 0, 0, *TYPES[1], b"", b"")
     script = record(SET) + record(COLUMN, b"\x01" + LATIN) + (record(ROW) + record(CELL, b"\x01\x07")) * rows
-    yield script, [("columns", 1), column, *[("row", 7)] * rows, ("done", 0, SELECT, rows)]
+    yield script, [("columns", 1), column, *[("row", 7)] * rows, ("done", LAST, SELECT, rows)]

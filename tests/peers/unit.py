@@ -1,5 +1,4 @@
-"""The unit of tools/serve.py in a process of its own, for conversations: a login is routed to a second port, and a
-batch may ask for a DONE whose row count is valid (`counted`)."""
+"""The unit of tools/serve.py in a process of its own, for conversations: a login is routed to a second port."""
 import contextlib
 import json
 import pathlib
@@ -31,7 +30,7 @@ def running(scripts):
         journal, paths = folder / "journal", [folder / f"{i}.script" for i in range(len(scripts))]
         for path, script in zip(paths, scripts):
             path.write_bytes(script)
-        command = [sys.executable, TOOL, "--port", "0", "--journal", journal, "--route", "--counted", *paths]
+        command = [sys.executable, TOOL, "--port", "0", "--journal", journal, "--route", *paths]
         with subprocess.Popen(command, stdout=subprocess.PIPE, text=True) as process:
             try:
                 yield Unit(listened(process), journal)

@@ -1,5 +1,6 @@
--- The cases of document 01 that are marked P ('Cases', 1 to 11): one table of calls and what they answer, and the statement that the
--- definitions give these answers. Rests on the definitions of request, result and response that answer the calls.
+-- The cases of document 01 that are marked P ('Cases', 1 to 11; 1 to 3 as request 2026-03 changes them): one table of calls and what
+-- they answer, and the statement that the definitions give these answers. Rests on the definitions of request, result and response that
+-- answer the calls.
 use mathlib.Core.Path.{_≡_}
 use mathlib.Core.Bool.{cond}
 use mathlib.Core.List.{List, [], _∷_, _++_, map}
@@ -86,14 +87,14 @@ table a b c d e f g h i j k l m n o p q =
     let eight : List ℕ = f ∷ g ∷ h ∷ i ∷ j ∷ k ∷ l ∷ m ∷ [] in
     let four : List ℕ = n ∷ o ∷ p ∷ q ∷ [] in
     -- 1: a bare set
-    (script (be 6 0x00000000_0100), bytes (be 24 0x0401001800000100_810000_FD0000C1000000000000000000))
+    (script (be 6 0x00000000_0100), bytes (be 24 0x0401001800000100_810000_FD1000C1000000000000000000))
     -- 2: an Int column "n", a row of 7
     ∷ (
       script (be 13 0x00000000_0100_08000000_0200_03 ++ (a ∷ b ∷ c ∷ d ∷ e ∷ be 19 0x6E00_00000000_0400_05000000_0500_03_07000000)),
-      bytes (be 41 0x0401002900000100_8101000000000000002604016E00_D10407000000_FD0000C1000100000000000000),
+      bytes (be 41 0x0401002900000100_8101000000000000002604016E00_D10407000000_FD1000C1000100000000000000),
     )
     -- 3: two bare sets
-    ∷ (script (be 12 0x00000000_0100_00000000_0100), bytes (be 40 0x0401002800000100_810000_FD0100C1000000000000000000_810000_FD0000C1000000000000000000))
+    ∷ (script (be 12 0x00000000_0100_00000000_0100), bytes (be 40 0x0401002800000100_810000_FD1100C1000000000000000000_810000_FD1000C1000000000000000000))
     -- 4: an attention's reply
     ∷ (attention, bytes (be 21 0x0401001500000100_FD2000C1000000000000000000))
     -- 5: the replies to transactions of type 5 and 6, which are no packets

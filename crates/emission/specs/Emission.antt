@@ -43,16 +43,19 @@ infoToken p = message 0xAB (leAt 4 p) (leAt 1 (drop 4 p)) (leAt 1 (drop 5 p)) (m
 abbrev pub errorToken : List ℕ → Token EncodedCell
 errorToken p = message 0xAA (leAt 4 p) 1 (leAt 1 (drop 4 p)) (drop 5 p) [] [] 1
 
--- DONE, whose command is SELECT; the status of each kind of DONE is named here alone
+-- DONE, whose command is SELECT; the status of each kind of DONE is named here alone. Its bits (MS-TDS 2.2.7.6): 0001 MORE, 0002 an
+-- error, 0010 COUNT, with which the row count is valid
 abbrev pub doneToken : ℕ → ℕ → Token EncodedCell
 doneToken status rows = done status 0xC1 rows
 
+-- of the DONE that ends a set, where a set follows and where none does (document 02, 2026-03); the Rust writes both without COUNT
 abbrev pub moreStatus : ℕ
-moreStatus = 0x0001
+moreStatus = 0x0011
 
 abbrev pub lastStatus : ℕ
-lastStatus = 0x0000
+lastStatus = 0x0010
 
+-- of the DONE after an error, which ends no set
 abbrev pub leadingStatus : ℕ
 leadingStatus = 0x0003
 

@@ -1,5 +1,5 @@
--- Worked packets (document 02, 2026-02, too): what a run over each means, in one table that one theorem covers by computation. Cases 1 to 3 of document 01,
--- a message, cells, and the refusals of a sender. Assumes nothing.
+-- Worked packets: what a run over each means, in one table that one theorem covers by computation. Cases 1 to 3 of document 01 as
+-- request 2026-03 has them, a message, cells, packets one after another (request 2026-02), and the refusals of a sender. Assumes nothing.
 use mathlib.Core.Path.{_≡_, refl}
 use mathlib.Core.Bool.{false}
 use mathlib.Core.List.{List, [], _∷_, _++_, map}
@@ -121,12 +121,12 @@ forged i place count columns cells code limit t =
 
 abbrev pub replies : List Example
 replies =
-    over (0x04 ∷ 0x01 ∷ 0x00 ∷ 0x18 ∷ 0 ∷ 0 ∷ 1 ∷ 0 ∷ 0x81 ∷ 0 ∷ 0 ∷ doneOf 0 0)
-    (token (metadata 0) ∷ token (done 0 0xC1 0) ∷ ended ∷ ended ∷ [])
-    ∷ over (0x04 ∷ 0x01 ∷ 0x00 ∷ 41 ∷ 0 ∷ 0 ∷ 1 ∷ 0 ∷ column1 ++ (0x26 ∷ 4 ∷ 1 ∷ 0x6E ∷ 0 ∷ 0xD1 ∷ 4 ∷ 7 ∷ 0 ∷ 0 ∷ 0 ∷ doneOf 0 1))
-    (token (metadata 1) ∷ token (column 0 0 0x26 4 [] (0x6E ∷ 0 ∷ [])) ∷ token row ∷ token (cell (number (pos 7))) ∷ token (done 0 0xC1 1) ∷ ended ∷ [])
-    ∷ over (0x04 ∷ 0x01 ∷ 0x00 ∷ 40 ∷ 0 ∷ 0 ∷ 1 ∷ 0 ∷ 0x81 ∷ 0 ∷ 0 ∷ doneOf 1 0 ++ (0x81 ∷ 0 ∷ 0 ∷ doneOf 0 0))
-    (token (metadata 0) ∷ token (done 1 0xC1 0) ∷ token (metadata 0) ∷ token (done 0 0xC1 0) ∷ ended ∷ [])
+    over (0x04 ∷ 0x01 ∷ 0x00 ∷ 0x18 ∷ 0 ∷ 0 ∷ 1 ∷ 0 ∷ 0x81 ∷ 0 ∷ 0 ∷ doneOf 0x10 0)
+    (token (metadata 0) ∷ token (done 0x10 0xC1 0) ∷ ended ∷ ended ∷ [])
+    ∷ over (0x04 ∷ 0x01 ∷ 0x00 ∷ 41 ∷ 0 ∷ 0 ∷ 1 ∷ 0 ∷ column1 ++ (0x26 ∷ 4 ∷ 1 ∷ 0x6E ∷ 0 ∷ 0xD1 ∷ 4 ∷ 7 ∷ 0 ∷ 0 ∷ 0 ∷ doneOf 0x10 1))
+    (token (metadata 1) ∷ token (column 0 0 0x26 4 [] (0x6E ∷ 0 ∷ [])) ∷ token row ∷ token (cell (number (pos 7))) ∷ token (done 0x10 0xC1 1) ∷ ended ∷ [])
+    ∷ over (0x04 ∷ 0x01 ∷ 0x00 ∷ 40 ∷ 0 ∷ 0 ∷ 1 ∷ 0 ∷ 0x81 ∷ 0 ∷ 0 ∷ doneOf 0x11 0 ++ (0x81 ∷ 0 ∷ 0 ∷ doneOf 0x10 0))
+    (token (metadata 0) ∷ token (done 0x11 0xC1 0) ∷ token (metadata 0) ∷ token (done 0x10 0xC1 0) ∷ ended ∷ [])
     ∷ reply (error2 18 1 ++ (0x42 ∷ 0 ∷ 0 ∷ 7 ∷ 0 ∷ 0 ∷ 0 ∷ doneOf 2 0))
     (token (message 0xAA 1 2 3 (0x41 ∷ 0 ∷ []) (0x42 ∷ 0 ∷ []) [] 7) ∷ token (done 2 0xC1 0) ∷ ended ∷ [])
     ∷ reply (smallint (2 ∷ 0 ∷ 0x80 ∷ 0xD1 ∷ 0 ∷ doneOf 0 2))

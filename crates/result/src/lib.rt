@@ -33,11 +33,12 @@ pub enum Built {
     Refused(u8),
 }
 
-// The status of each kind of DONE.
-const MORE: u16 = 0x0001;
+// The status of the DONE that ends a set: its row count is valid (0010), and where a set follows there is more (0001).
+const MORE: u16 = 0x0011;
 
-const LAST: u16 = 0x0000;
+const LAST: u16 = 0x0010;
 
+// The status of the DONE after an error, which ends no set.
 const LEADING: u16 = 0x0003;
 
 const TERMINAL: u16 = 0x0002;

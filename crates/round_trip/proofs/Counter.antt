@@ -1,5 +1,5 @@
 -- Wrong replies that the statements refuse, by the tokens that would be read of them: a set without its DONE, a DONE with an invented
--- count, and all rows in the first set with later sets empty. Assumes nothing.
+-- count, one whose count is not valid, a leading DONE whose count is, and all rows in the first set with later sets empty. Assumes nothing.
 use mathlib.Core.Path.{_≡_, refl, ap, _∙_}
 use mathlib.Core.Bool.{true, false}
 use mathlib.Core.List.{List, [], _∷_}
@@ -20,17 +20,30 @@ use Rattle.round_trip.proofs.Witness.{twoSets, two-sets-data}
 
 -- the first set ends without a DONE, and none counts its row
 abbrev pub lost : List (Token Value)
-lost = metadata 1 ∷ row ∷ cell null ∷ metadata 0 ∷ done 0 0xC1 0 ∷ []
+lost = metadata 1 ∷ row ∷ cell null ∷ metadata 0 ∷ done 0x0010 0xC1 0 ∷ []
 
 pub not-ended : setsEnd none lost ≡ false
 not-ended = refl
 
 -- a DONE with an invented count: one row, and 5
 abbrev pub invented : List (Token Value)
-invented = metadata 1 ∷ row ∷ cell null ∷ done 0 0xC1 5 ∷ []
+invented = metadata 1 ∷ row ∷ cell null ∷ done 0x0010 0xC1 5 ∷ []
 
 pub not-counted : setsEnd none invented ≡ false
 not-counted = refl
+
+-- the reply of a set of one row that ends in a DONE of a status, after a leading error's DONE
+abbrev pub ended : (leading status : ℕ) → List (Token Value)
+ended leading status = done leading 0xC1 0 ∷ metadata 1 ∷ row ∷ cell null ∷ done status 0xC1 1 ∷ []
+
+-- as it is sent, last or before another set; with 0000 on the last, with 0001 for 0011, with 0013 on the leading DONE
+pub counts-valid : (setsEnd none (ended 0x0003 0x0010) ≡ true) × (setsEnd none (ended 0x0003 0x0011) ≡ true)
+unfolding hasBit
+counts-valid = (refl, refl)
+
+pub not-valid : (setsEnd none (ended 0x0003 0x0000) ≡ false) × (setsEnd none (ended 0x0003 0x0001) ≡ false) × (setsEnd none (ended 0x0013 0x0010) ≡ false)
+unfolding hasBit
+not-valid = (refl, refl, refl)
 
 -- ---- by DataRead
 
@@ -44,10 +57,10 @@ gathered =
     ∷ cell (number (pos 255))
     ∷ row
     ∷ cell null
-    ∷ done 0x0001 0xC1 2
+    ∷ done 0x0011 0xC1 2
     ∷ metadata 1
     ∷ column 0 0 0x26 1 [] (0x62 ∷ 0x00 ∷ [])
-    ∷ done 0x0000 0xC1 0
+    ∷ done 0x0010 0xC1 0
     ∷ []
 
 -- it ends each set in a DONE that counts the rows since COLMETADATA, and has MORE as it must be

@@ -77,14 +77,14 @@ sets-group (s ∷ ss) =
 errors-group : (es : List (List ℕ)) (qs : List Piece) (ss : List ScriptSet) → grouped (stated qs) ≡ only ss
     → grouped (stated (orElse (errorPieces terminalStatus es) qs)) ≡ only (unlessError es ss)
 errors-group [] qs ss h = h
-errors-group (e ∷ es) qs ss h = errors-alone grouped (λ status e ts. refl) terminalStatus (e ∷ es)
+errors-group (e ∷ es) qs ss h = errors-alone grouped terminalStatus (λ e ts. refl) (e ∷ es)
 
 script-groups : (ss : List ScriptSet) → grouped (stated (emittedBy ss)) ≡ only (emittedSets ss)
 unfolding emittedBy
 script-groups [] = refl
 script-groups (s ∷ ss) =
     errors-group (s .terminal) (errorPieces leadingStatus (s .leading) ++ setsPieces (s ∷ ss)) (s ∷ ss)
-    (past-errors grouped (λ status e ts. refl) leadingStatus (s .leading) (setsPieces (s ∷ ss)) ∙ sets-group (s ∷ ss))
+    (past-errors grouped leadingStatus (λ e ts. refl) (s .leading) (setsPieces (s ∷ ss)) ∙ sets-group (s ∷ ss))
 
 in-emitted : (s : List ℕ) → dataIn (map states (emitted s)) ≡ map statedSet (emittedSets (setsIn (records s)))
 unfolding emitted pieces

@@ -14,7 +14,7 @@ use Rattle.token.specs.Tokens.{Token, Value, done, message, cell, states}
 use Rattle.token.specs.Tokens.{EncodedCell}
 use Rattle.script.specs.Records.{records}
 use Rattle.script.specs.Sets.{ScriptCell, ScriptRow, ScriptSet, setsIn}
-use Rattle.emission.specs.Emission.{Piece, tokenPiece, classificationPiece, columnToken, infoToken, errorToken, doneToken, cellOf, leadingStatus, terminalStatus, columnPieces, infoPieces, errorPieces, rowPieces, setsPieces, orElse, emittedBy, pieces, tokensIn, emitted, columnBy, columnOf, columnPiece, cellPieces}
+use Rattle.emission.specs.Emission.{Piece, tokenPiece, classificationPiece, columnToken, infoToken, errorToken, doneToken, cellOf, leadingStatus, terminalStatus, statusBefore, columnPieces, infoPieces, errorPieces, rowPieces, setsPieces, orElse, emittedBy, pieces, tokensIn, emitted, columnBy, columnOf, columnPiece, cellPieces}
 use Rattle.wire.specs.Le.{leAt}
 use Rattle.token.specs.Types.{dataTypeOf}
 use Rattle.token.specs.declared.SqlDataType.{SqlDataType}
@@ -24,7 +24,7 @@ use Rattle.emission.proofs.BySets.{ending, sets-are}
 use Rattle.reader.proofs.WellFormed.{Phase, WF, wf-metadata, wf-column, wf-row, wf-cell, wf-message, wf-done, wf-last}
 use Rattle.reader.proofs.ReadBack.{same}
 use Rattle.round_trip.specs.RoundTrip.{Packing, packetsLeft, Sent, Reads}
-use Rattle.round_trip.specs.Reading.{ReadOnce, setsEnd, SetsRead, moreButLast, MoreRead, TerminalRead}
+use Rattle.round_trip.specs.Reading.{ReadOnce, countValid, setsEnd, SetsRead, moreButLast, MoreRead, TerminalRead}
 use Rattle.round_trip.proofs.Formed.{emitted-well-formed}
 use Rattle.round_trip.proofs.RoundTrip.{round-trip}
 
@@ -68,7 +68,7 @@ module _ {A : Type 0} (f : List (Token Value) → A) where
     past-columns x ps qs = rw (append-assoc (columnPieces ps) (classificationPiece x ∷ []) qs) (past-each ps (classificationPiece x ∷ qs))
 
   -- cells
-  pub past-cells : ((c : EncodedCell) (ts : List (Token Value)) → f (states (cell c) ∷ ts) ≡ f ts)
+  past-cells : ((c : EncodedCell) (ts : List (Token Value)) → f (states (cell c) ∷ ts) ≡ f ts)
       → (cs : List ScriptCell) (qs : List Piece) → f (stated (flatMap scriptCell cs ++ qs)) ≡ f (stated qs)
   unfolding flatMap
   past-cells h [] qs = refl
@@ -77,11 +77,10 @@ module _ {A : Type 0} (f : List (Token Value) → A) where
       (past cell h (cellOf (c .value) (c .chunks)) (flatMap scriptCell cs ++ qs) ∙ past-cells h cs qs)
 
   -- errors, each with its DONE: before others, and alone
-  module _ (h : (status : ℕ) (e : List ℕ) (ts : List (Token Value)) → f (states (errorToken e) ∷ states (doneToken status 0) ∷ ts) ≡ f ts)
-      (status : ℕ) where
+  module _ (status : ℕ) (h : (e : List ℕ) (ts : List (Token Value)) → f (states (errorToken e) ∷ states (doneToken status 0) ∷ ts) ≡ f ts) where
     pub past-errors : (es : List (List ℕ)) (qs : List Piece) → f (stated (errorPieces status es ++ qs)) ≡ f (stated qs)
     past-errors [] qs = refl
-    past-errors (e ∷ es) qs = h status e (stated (errorPieces status es ++ qs)) ∙ past-errors es qs
+    past-errors (e ∷ es) qs = h e (stated (errorPieces status es ++ qs)) ∙ past-errors es qs
 
     pub errors-alone : (es : List (List ℕ)) → f (stated (errorPieces status es)) ≡ f []
     errors-alone es = rw (← append-nil (errorPieces status es)) (past-errors es [])
@@ -96,6 +95,12 @@ past-rows rows (r ∷ rs) qs =
     rw (append-assoc (flatMap scriptCell (r .cells)) (flatMap rowPieces rs) qs, add-suc, ← suc-add rows (length rs))
     (past-cells (setsEnd (some (suc rows))) (λ c ts. refl) (r .cells) (flatMap rowPieces rs ++ qs) ∙ past-rows (suc rows) rs qs)
 
+-- the count of a set's DONE is valid, whatever sets follow
+count-valid : (ss : List ScriptSet) → countValid (statusBefore ss) ≡ true
+unfolding hasBit
+count-valid [] = refl
+count-valid (s ∷ ss) = refl
+
 no-sets : setsEnd none (stated (setsPieces [])) ≡ true
 unfolding setsPieces
 no-sets = refl
@@ -106,7 +111,7 @@ sets-end (s ∷ ss) =
     let n = length (s .rows) in
     let last = infoPieces (s .trailing) ++ ending n ss in
     let rows = flatMap rowPieces (s .rows) ++ last in
-    let e : setsEnd (some n) (stated (ending n ss)) ≡ true = rw (eq-eqb n n refl) (sets-end ss) in
+    let e : setsEnd (some n) (stated (ending n ss)) ≡ true = rw (eq-eqb n n refl, count-valid ss) (sets-end ss) in
     rw (sets-are s ss)
     (past-columns (setsEnd (some 0)) (λ t p ts. refl) (s .classification) (s .columns) (infoPieces (s .infos) ++ rows)
     ∙ past (setsEnd (some 0)) infoToken (λ p ts. refl) (s .infos) rows
@@ -116,15 +121,16 @@ sets-end (s ∷ ss) =
 -- errors alone, where there are any
 errors-end : (es : List (List ℕ)) (qs : List Piece) → setsEnd none (stated qs) ≡ true
     → setsEnd none (stated (orElse (errorPieces terminalStatus es) qs)) ≡ true
+unfolding hasBit
 errors-end [] qs h = h
-errors-end (e ∷ es) qs h = errors-alone (setsEnd none) (λ status e ts. refl) terminalStatus (e ∷ es)
+errors-end (e ∷ es) qs h = errors-alone (setsEnd none) terminalStatus (λ e ts. refl) (e ∷ es)
 
 script-ends : (ss : List ScriptSet) → setsEnd none (stated (emittedBy ss)) ≡ true
-unfolding emittedBy
+unfolding emittedBy hasBit
 script-ends [] = refl
 script-ends (s ∷ ss) =
     errors-end (s .terminal) (errorPieces leadingStatus (s .leading) ++ setsPieces (s ∷ ss))
-    (past-errors (setsEnd none) (λ status e ts. refl) leadingStatus (s .leading) (setsPieces (s ∷ ss)) ∙ sets-end (s ∷ ss))
+    (past-errors (setsEnd none) leadingStatus (λ e ts. refl) (s .leading) (setsPieces (s ∷ ss)) ∙ sets-end (s ∷ ss))
 
 pub sets-read : SetsRead
 unfolding emitted pieces

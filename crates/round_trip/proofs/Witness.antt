@@ -198,11 +198,11 @@ allKindsTokens =
     ∷ cell (part (be 2 0x00FF))
     ∷ cell null
     ∷ cell null
-    -- DONE with MORE, which counts one row; COLMETADATA without columns, INFO, the last DONE
-    ∷ done 0x0001 0xC1 1
+    -- DONE with COUNT and MORE, which counts one row; COLMETADATA without columns, INFO, the last DONE, with COUNT alone
+    ∷ done 0x0011 0xC1 1
     ∷ metadata 0
     ∷ message 0xAB 5703 1 0 (be 2 0x6900) [] [] 1
-    ∷ done 0x0000 0xC1 0
+    ∷ done 0x0010 0xC1 0
     ∷ []
 
 all-kinds-emitted : map states (emitted allKinds) ≡ allKindsTokens

@@ -3,7 +3,7 @@
 -- sets, token's numbers, and RoundTrip.
 use Prim.Native.Nat.{ℕ}
 use mathlib.Core.Path.{_≡_}
-use mathlib.Core.Bool.{Bool, true, false, cond, _||_}
+use mathlib.Core.Bool.{true, cond, _||_}
 use mathlib.Core.List.{List, [], _∷_, map}
 use mathlib.Core.Option.{Option, none, some}
 use lib.Dec.{eqb}
@@ -15,6 +15,7 @@ use Rattle.script.specs.Records.{records}
 use Rattle.script.specs.Sets.{ScriptCell, ScriptRow, ScriptSet, setsIn}
 use Rattle.emission.specs.Emission.{emitted}
 use Rattle.round_trip.specs.RoundTrip.{Packing, packetsLeft, Sent, Reads}
+use Rattle.round_trip.specs.Reading.{countValid, setsEnd}
 
 -- ---- of tokens
 
@@ -38,16 +39,15 @@ grouped (message k n s c t v p l ∷ ts) = grouped ts
 abbrev pub dataIn : List (Token Value) → List (List (List Value))
 dataIn ts = grouped ts .sets
 
--- the counts of the DONEs that end a set, each the first after a COLMETADATA; `within`: a set has begun
-abbrev pub countsIn : (within : Bool) → List (Token Value) → List ℕ
-countsIn within [] = []
-countsIn within (metadata n ∷ ts) = countsIn true ts
-countsIn within (column u f c l o n ∷ ts) = countsIn within ts
-countsIn within (row ∷ ts) = countsIn within ts
-countsIn within (cell v ∷ ts) = countsIn within ts
-countsIn true (done s c n ∷ ts) = n ∷ countsIn false ts
-countsIn false (done s c n ∷ ts) = countsIn false ts
-countsIn within (message k n s c t v p l ∷ ts) = countsIn within ts
+-- the counts that are valid, those of the DONEs with DONE_COUNT: what a client believes and shows
+abbrev pub countsIn : List (Token Value) → List ℕ
+countsIn [] = []
+countsIn (metadata n ∷ ts) = countsIn ts
+countsIn (column u f c l o n ∷ ts) = countsIn ts
+countsIn (row ∷ ts) = countsIn ts
+countsIn (cell v ∷ ts) = countsIn ts
+countsIn (done s c n ∷ ts) = cond (countValid s) (n ∷ countsIn ts) (countsIn ts)
+countsIn (message k n s c t v p l ∷ ts) = countsIn ts
 
 -- ---- of a script, by its records of kinds 1, 4, 5 and 6
 
@@ -113,12 +113,17 @@ DataRead =
     (how : Packing) (s b : List ℕ) (n : ℕ) → Sent how s b n → (ts : List (Token Value)) → Reads (packetsLeft how s b n) ts
     → present (dataIn ts) ≡ dataOf s
 
--- Each emitted set ends in a DONE carrying its count of rows, the number of its kind 4 records; by SetsRead (Reading) this is the
--- number of ROWs read since its COLMETADATA.
+-- 'A set's rows must equal the now valid count' (document 02, 2026-03), of whatever tokens have setsEnd: the valid counts are the numbers
+-- of rows of the sets in them, in order.
+abbrev pub RowsCounted : Type 0
+RowsCounted = (ts : List (Token Value)) → setsEnd none ts ≡ true → countsIn ts ≡ map length (dataIn ts)
+
+-- The valid counts are the emitted sets' counts of rows, in order, and no more: who believes a DONE's count by its bit alone is told the
+-- number of kind 4 records of each emitted set. By SetsRead (Reading) these DONEs are those that end the sets.
 abbrev pub CountsRead : Type 0
 CountsRead =
     (how : Packing) (s b : List ℕ) (n : ℕ) → Sent how s b n → (ts : List (Token Value)) → Reads (packetsLeft how s b n) ts
-    → countsIn false ts ≡ countsOf s
+    → countsIn ts ≡ countsOf s
 
 -- Two scripts with equal packets agree in every token that they state, and in their sets, rows and values: nothing of these is lost on
 -- the way.

@@ -1,9 +1,9 @@
--- What holds of the tokens that are read from the packets of a script that was sent (document 01, 'What a script emits'): each set ends
--- in a DONE that counts its rows, MORE, the terminal error. It is said of whatever tokens are read, and not by way of what the builder
--- means to send. Rests on RoundTrip, and on script's records and sets.
+-- What holds of the tokens that are read from the packets of a script that was sent (document 01, 'What a script emits'; document 02,
+-- 2026-03): each set ends in a DONE whose valid count is that of its rows, MORE, the terminal error. It is said of whatever tokens are
+-- read, and not by way of what the builder means to send. Rests on RoundTrip, and on script's records and sets.
 use Prim.Native.Nat.{ℕ, zero, suc}
 use mathlib.Core.Path.{_≡_}
-use mathlib.Core.Bool.{Bool, true, false, cond, _&&_}
+use mathlib.Core.Bool.{Bool, true, false, cond, not, _&&_}
 use mathlib.Core.List.{List, [], _∷_}
 use mathlib.Core.Option.{Option, none, some}
 use lib.Dec.{eqb}
@@ -19,16 +19,20 @@ use Rattle.round_trip.specs.RoundTrip.{Packing, packetsLeft, Sent, Reads
 abbrev pub ReadOnce : Type 0
 ReadOnce = (packets : List ℕ) (ts us : List (Token Value)) → Reads packets ts → Reads packets us → ts ≡ us
 
--- Each set runs from its COLMETADATA to a DONE, which carries the number of ROWs read since; columns, rows and cells stand in a set,
--- cells after a ROW. `some rows`: a set has begun, and so many rows of it have come. Outside a set stand messages, and DONEs that count
--- no rows.
+-- DONE_COUNT, status bit 0010 (MS-TDS 2.2.7.6): the DONE's row count is valid
+abbrev pub countValid : ℕ → Bool
+countValid status = hasBit 0x10 status
+
+-- Each set runs from its COLMETADATA to a DONE, whose count is valid and is the number of ROWs read since; columns, rows and cells stand
+-- in a set, cells after a ROW. `some rows`: a set has begun, and so many rows of it have come. Outside a set stand messages, and DONEs
+-- that count no rows and whose count is not valid.
 abbrev pub setsEnd : Option ℕ → List (Token Value) → Bool
 setsEnd none [] = true
 setsEnd none (metadata n ∷ ts) = setsEnd (some 0) ts
 setsEnd none (column u f c l o n ∷ ts) = false
 setsEnd none (row ∷ ts) = false
 setsEnd none (cell v ∷ ts) = false
-setsEnd none (done s c n ∷ ts) = eqb n 0 && setsEnd none ts
+setsEnd none (done s c n ∷ ts) = eqb n 0 && not (countValid s) && setsEnd none ts
 setsEnd none (message k n s c t v p l ∷ ts) = setsEnd none ts
 setsEnd (some rows) [] = false
 setsEnd (some rows) (metadata n ∷ ts) = false
@@ -36,11 +40,11 @@ setsEnd (some rows) (column u f c l o n ∷ ts) = setsEnd (some rows) ts
 setsEnd (some rows) (row ∷ ts) = setsEnd (some (suc rows)) ts
 setsEnd (some zero) (cell v ∷ ts) = false
 setsEnd (some (suc rows)) (cell v ∷ ts) = setsEnd (some (suc rows)) ts
-setsEnd (some rows) (done s c n ∷ ts) = eqb n rows && setsEnd none ts
+setsEnd (some rows) (done s c n ∷ ts) = eqb n rows && countValid s && setsEnd none ts
 setsEnd (some rows) (message k n s c t v p l ∷ ts) = setsEnd (some rows) ts
 
--- every set that is read ends in a DONE carrying the number of rows read since its COLMETADATA; that this is the set's count of rows in
--- the script is CountsRead (Data)
+-- every set that is read ends in a DONE with the bit, carrying the number of rows read since its COLMETADATA, and no other DONE has the
+-- bit; that this number is the set's count of rows in the script is CountsRead (Data)
 abbrev pub SetsRead : Type 0
 SetsRead = (how : Packing) (s b : List ℕ) (n : ℕ) → Sent how s b n → (ts : List (Token Value)) → Reads (packetsLeft how s b n) ts → setsEnd none ts ≡ true
 

@@ -2,7 +2,8 @@
 //! without the library.
 
 use crate::answers::Part;
-use crate::answers::reply::{accepted, packet, reply};
+use crate::answers::counted::places;
+use crate::answers::reply::{accepted, packet, reply, rust_packet};
 use crate::answers::request::{batch, descriptor, fedauth, transaction};
 use crate::hex::{hex, unhex};
 use crate::inputs::script::{SMALL, Shape, damaged, of_shape, random_script};
@@ -31,7 +32,7 @@ fn spaced(digits: &str) -> String {
 
 #[test]
 fn case_1_a_bare_set() {
-    let packet = "0401001800000100 810000 FD0000C1000000000000000000";
+    let packet = "0401001800000100 810000 FD1000C1000000000000000000";
     assert_eq!(reply_to("000000000100"), Ok(spaced(packet)));
 }
 
@@ -39,15 +40,15 @@ fn case_1_a_bare_set() {
 fn case_2_an_int_column() {
     let script = [set(&[]), column(3, COLLATION, b"n\0"), row(), cell(3, &[7, 0, 0, 0])];
     let packet = "0401002900000100 8101000000000000002604016E00 D10407000000 \
-                  FD0000C1000100000000000000";
+                  FD1000C1000100000000000000";
     assert_eq!(reply_of(&script), Ok(unhex(packet)));
     assert_eq!(unhex(packet).len(), 41);
 }
 
 #[test]
 fn case_3_two_bare_sets() {
-    let packet = "0401002800000100 810000 FD0100C1000000000000000000 \
-                  810000 FD0000C1000000000000000000";
+    let packet = "0401002800000100 810000 FD1100C1000000000000000000 \
+                  810000 FD1000C1000000000000000000";
     assert_eq!(reply_to("000000000100 000000000100"), Ok(spaced(packet)));
 }
 
@@ -207,21 +208,49 @@ fn scripts_that_shall_fit_do_and_damage_meets_every_refusal() {
 fn scripts_emit_their_tokens() {
     let of = |records: &[Record]| tokens::lines(&written(records)).map(|lines| lines.join(" | "));
     let text = |text: &str| Some(text.to_string());
-    assert_eq!(of(&[set(&[])]), text("81 0 | FD 0000 00C1 0 | end"));
+    assert_eq!(of(&[set(&[])]), text("81 0 | FD 0010 00C1 0 | end"));
     let mut script = vec![set(&[]), error(LEADING, 8, 9, b"e\0"), set(&[])];
     script.extend([column(2, COLLATION, b"n\0"), column(7, COLLATION, b"")]);
     script.extend([error(TERMINAL, 8, 9, b""), row(), cell(2, &[0, 0x80]), cell(8, &[])]);
     script.extend([chunk(&[1]), chunk(&[2, 3]), row(), cell(10, &[]), cell(7, &[])]);
     script.push(info(TRAILING, b"m\0", b"s\0", b""));
-    let lines = "AA 8 1 9 1 6500 - - | FD 0003 00C1 0 | 81 0 | FD 0001 00C1 0 | 81 2 | \
+    let lines = "AA 8 1 9 1 6500 - - | FD 0003 00C1 0 | 81 0 | FD 0011 00C1 0 | 81 2 | \
                  col 0 0000 26 2 - 6E00 | col 0 0000 A7 65535 0102030405 - | \
                  D1 | num -32768 | part 010203 | D1 | null | null | \
-                 AB 50000 1 10 7 6D00 7300 - | FD 0000 00C1 2 | end";
+                 AB 50000 1 10 7 6D00 7300 - | FD 0010 00C1 2 | end";
     assert_eq!(of(&script), text(lines));
     script[1] = error(TERMINAL, 8, 9, b"e\0");
     assert_eq!(of(&script), text("AA 8 1 9 1 6500 - - | FD 0002 00C1 0 | end"));
     assert_eq!(of(&[set(&[]), row()]), None);
     assert_eq!(of(&[row()]), None);
+}
+
+/// A script in which the bytes of a DONE stand in the classification, a name, messages and values: it
+/// parts from the Rust in two bytes, the status of each set's DONE.
+#[test]
+fn status_words_are_told_from_bytes_that_look_like_them() {
+    let done = unhex("FD0000C1000000000000000000 00");
+    let mut script = vec![set(&done), column(5, COLLATION, &done), column(8, COLLATION, &done)];
+    script.extend([error(LEADING, 1, 2, &done), info(INFO, &done, &done, &done), row()]);
+    script.extend([cell(5, &done), cell(9, &[]), chunk(&done), chunk(&done), set(&done)]);
+    script.push(info(TRAILING, &done, &done, &done));
+    let script = accepted(&written(&script)).unwrap();
+    let (ours, rust) = (packet(&script).unwrap(), rust_packet(&script));
+    let differ: Vec<usize> = (0..rust.len()).filter(|at| ours[*at] != rust[*at]).collect();
+    let last = rust.len() - 12;
+    let info = 17 + 3 * done.len();
+    let first = last - 13 - info - done.len() - 3;
+    assert_eq!(ours.len(), rust.len());
+    assert_eq!(differ, [first, last]);
+    assert_eq!((rust[first], ours[first], rust[last], ours[last]), (0x01, 0x11, 0x00, 0x10));
+    assert_eq!(places(&script, &rust), [(first, true), (last, false)]);
+}
+
+#[test]
+fn a_terminal_script_has_the_status_of_the_rust() {
+    let script = [set(&[]), error(TERMINAL, 8, 9, b"e\0"), set(&[])];
+    let script = accepted(&written(&script)).unwrap();
+    assert_eq!(packet(&script).unwrap(), rust_packet(&script)[..]);
 }
 
 #[test]

@@ -1,7 +1,8 @@
 //! The tokens that fitting scripts emit, as the program `answer` prints those of a packet, a line a
 //! script: `SCRIPT => LINES`, the script in hexadecimal, the lines joined by ` | `, `end` last.
 //!
-//! They come from the decoded script alone (document 01, 'What a script emits'), not from a packet.
+//! They come from the decoded script alone (document 01, 'What a script emits'; document 02, 2026-03,
+//! for the status of a set's DONE), not from a packet.
 
 use crate::answers::reply::{accepted, packet};
 use crate::hex::hex;
@@ -27,6 +28,7 @@ const BORDERS: [Shape; 3] = [
 /// The status bits of a DONE.
 const MORE: u16 = 0x0001;
 const ERROR: u16 = 0x0002;
+const COUNT: u16 = 0x0010;
 /// The command of every DONE, and the state and line of every error, which no record holds.
 const COMMAND: u16 = 0x00C1;
 const ERROR_STATE: u8 = 1;
@@ -111,7 +113,7 @@ fn add_sets(lines: &mut Vec<String>, script: &Script) {
         if place == last {
             lines.extend(script.trailing.iter().map(info_line));
         }
-        let status = if place == last { 0 } else { MORE };
+        let status = if place == last { COUNT } else { MORE | COUNT };
         lines.push(done_line(status, set.rows.len()));
     }
 }

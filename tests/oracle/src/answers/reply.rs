@@ -1,5 +1,6 @@
-//! The reply to a script: decoded here, written by the Rust.
+//! The reply to a script: decoded here, written by the Rust but for the status of each set's DONE.
 
+use super::counted::counted;
 use crate::protocol;
 use crate::query_response as rust;
 use crate::refusal::{Answer, LONG_RESULT};
@@ -25,7 +26,7 @@ pub fn accepted(script: &[u8]) -> Answer<Script> {
 
 /// The packet of a script that is accepted but for its length.
 pub fn packet(script: &Script) -> Answer<Vec<u8>> {
-    limited(rust_packet(script))
+    limited(rust_packet(script)).map(|packet| counted(script, packet))
 }
 
 /// What the Rust builds of the script, too long or not.
@@ -46,17 +47,21 @@ pub fn rust_packet(script: &Script) -> BytesMut {
 /// The packet by the Rust's narrowings, of a script that holds no more than they take: one set, and
 /// nothing else, trailing infos, or those and a classification.
 pub fn narrow(script: &Script) -> Answer<Vec<u8>> {
-    limited(protocol::build_query_result(&response(&script.sets[0])))
+    let packet = protocol::build_query_result(&response(&script.sets[0]));
+    limited(packet).map(|packet| counted(script, packet))
 }
 
 pub fn trailing(script: &Script) -> Answer<Vec<u8>> {
-    let infos = infos(&script.trailing);
-    limited(protocol::build_query_result_with_trailing_info(&response(&script.sets[0]), &infos))
+    let (set, infos) = (&script.sets[0], infos(&script.trailing));
+    let packet = protocol::build_query_result_with_trailing_info(&response(set), &infos);
+    limited(packet).map(|packet| counted(script, packet))
 }
 
 pub fn extras(script: &Script) -> Answer<Vec<u8>> {
     let (set, infos) = (&script.sets[0], infos(&script.trailing));
-    limited(protocol::build_query_result_with_extras(&response(set), &set.classification, &infos))
+    let packet =
+        protocol::build_query_result_with_extras(&response(set), &set.classification, &infos);
+    limited(packet).map(|packet| counted(script, packet))
 }
 
 /// The bytes, if they are not too many.
