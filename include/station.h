@@ -393,7 +393,7 @@ int64_t station_fresh(uint64_t *position, size_t position_len);
 
 #define STATION_DONE_MORE 0x0001        /* a bit of the status: a set follows */
 #define STATION_DONE_ERROR 0x0002       /* a bit of the status: an error came before */
-#define STATION_DONE_COUNT_VALID 0x0010 /* a bit of the status: the count is valid, that of the rows of the set that ends */
+#define STATION_DONE_COUNT_VALID 0x0010 /* a bit of the status: the row count is valid */
 
 #define STATION_TOKEN_ERROR 0xAA /* and STATION_TOKEN_INFO */
 #define STATION_TOKEN_INFO 0xAB

@@ -80,8 +80,7 @@ fn in_packets(response: QueryResponse, size: usize, measure: Measure) -> Option<
     Some(Outcome { input: script.len(), answer, time })
 }
 
-/// The reply on a side; of the Rust's the status of its DONE is what ours must be, which is no part of the
-/// time.
+/// The reply on a side. The Rust's gets the status that a set's DONE must have, after it was measured.
 fn reply(response: QueryResponse, side: Side, measure: Measure) -> Option<Outcome> {
     let script = script(&response);
     let (answer, time) = match side {

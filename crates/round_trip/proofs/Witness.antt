@@ -14,6 +14,7 @@ use Rattle.wire.specs.Be.{be}
 use Rattle.wire.specs.Fields.{flat}
 use Rattle.text.specs.Units.{unitsOf, units, total}
 use Rattle.text.specs.Surrogates.{surrogateOf, surrogates, paired, anyHigh, wellFormed, hasPair, charactersIn, characters}
+use Rattle.packet.specs.Status.{hasBit}
 use Rattle.packet.specs.Reply.{replyHeader, packetOf}
 use Rattle.script.specs.Records.{parse, records}
 use Rattle.script.specs.Order.{cellStage, stageAfter}
@@ -33,7 +34,7 @@ use Rattle.fit.specs.Misfits.{cellFits, wrongCells, wrongInRow, columnFits, wro
 use Rattle.fit.specs.Misfits.{rowsMisfits, setMisfits, setsMisfits, misfits, fitOf}
 use Rattle.round_trip.specs.Octets.{Bytes}
 use Rattle.round_trip.specs.RoundTrip.{single, packetsLeft, Sent, Reads}
-use Rattle.round_trip.specs.Data.{valueBy, dataIn, dataOf, present}
+use Rattle.round_trip.specs.Data.{valueBy, dataIn, countsIn, dataOf, countsOf, present}
 use Rattle.round_trip.proofs.RoundTrip.{round-trip}
 use Rattle.round_trip.proofs.Reading.{read-is, terminal-read}
 use Rattle.round_trip.proofs.Data.{data-read}
@@ -242,6 +243,14 @@ allKindsValues =
 pub all-kinds-data : (dataOf allKinds ≡ present allKindsValues) × (dataIn allKindsTokens ≡ allKindsValues)
 unfolding be le leAt parse records signed valueBy ahead every cellsIn rowsIn upToSet setsIn
 all-kinds-data = (refl, refl)
+
+-- its counts of rows, by its records and by the valid counts in these tokens: not the leading DONE's
+abbrev pub allKindsCounts : List ℕ
+allKindsCounts = 1 ∷ 0 ∷ []
+
+pub all-kinds-counts : (countsOf allKinds ≡ allKindsCounts) × (countsIn allKindsTokens ≡ allKindsCounts)
+unfolding hasBit be le leAt parse records ahead every cellsIn rowsIn upToSet setsIn
+all-kinds-counts = (refl, refl)
 
 -- ---- what is read of `terminal`: ERROR and DONE 0002, and no set
 
