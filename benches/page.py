@@ -6,7 +6,6 @@ import table
 
 PAGE = table.ROOT / "docs" / "EMBEDDING.md"
 MEMORY = 262_144
-KB = 1_024
 
 
 def numbers(row):
@@ -20,10 +19,10 @@ def row(name, values):
 
 
 def plan(lines, code, depth):
-    """The plan's rows, with the bytes of code and constants, whole KB for the deepest stack, and the sums of all."""
+    """The plan's rows, with the bytes of code and constants, the deepest stack, and the sums of all."""
     first, *rest, _ = lines[:-2]
     plans = len(numbers(first))
-    stack = row(f"stack for the calls, {depth:,} and `memcpy`", [-(-depth // KB) * KB] * plans)
+    stack = row("stack for the calls, without what `memcpy` takes", [depth] * plans)
     rows = [row(first.split("|")[1].strip(), [code] * plans), *rest, stack]
     sums = [sum(column) for column in zip(*map(numbers, rows))]
     return [*rows, row("sum", sums), row("left for the unit", [MEMORY - each for each in sums])]

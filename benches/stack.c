@@ -68,6 +68,7 @@ static struct export exports[] = {
     EXPORT(station_build_query_results_in_packets, "isb"),
     EXPORT(station_cut_payload, "isb"),
     EXPORT(station_room, "i"),
+    EXPORT(station_room_in_packets, "is"),
     EXPORT(station_fit, "io"),
     EXPORT(station_fresh, "p"),
     EXPORT(station_step, "ipo"),

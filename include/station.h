@@ -30,7 +30,7 @@ extern "C" {
 
 /* The version of these calls (CHANGELOG.md). An answer that changes changes the version. */
 #define STATION_VERSION_MAJOR 3
-#define STATION_VERSION_MINOR 0
+#define STATION_VERSION_MINOR 1
 
 /* The most bytes of a reply, and of a reply in packets: a `buf` of so many is never too short. */
 #define STATION_MOST_REPLY 65535
@@ -307,7 +307,8 @@ int64_t station_build_query_result_with_extras(const uint8_t *script, size_t scr
 /* The same reply in packets of a size, one after another: all but the last have `size` bytes, none has an empty payload,
  * their numbers rise from 1, and the end bit is on the last only. Their payloads joined are that of the one packet.
  * 0 or more: the bytes written, of all packets.
- * -32 a size under 512 or over 32,767, before all others; -11 to -17 as above; -20 a `buf` that is too short for all.
+ * -32 a size under 512 or over 32,767, before all others; -11 to -17 as above; -20 a `buf` that is too short for all:
+ * `station_room_in_packets` says how long it must be.
  */
 int64_t station_build_query_results_in_packets(const uint8_t *script, size_t script_len, size_t size, uint8_t *buf,
                                                size_t buf_len);
@@ -319,11 +320,18 @@ int64_t station_build_query_results_in_packets(const uint8_t *script, size_t scr
  */
 int64_t station_cut_payload(const uint8_t *payload, size_t payload_len, size_t size, uint8_t *buf, size_t buf_len);
 
-/* Room to lend for the reply of a script: at least its length, and at most 32 more.
+/* Room to lend for the reply of a script, exactly its length: a `buf` of as many bytes is never refused with -20, one of a
+ * byte less always is.
  * 0 or more: bytes.
  * -11 to -17 as above.
  */
 int64_t station_room(const uint8_t *script, size_t script_len);
+
+/* The same for the reply in packets of a size: exactly the sum of all packets with their headers.
+ * 0 or more: bytes.
+ * -32 as above, before all others; -11 to -17.
+ */
+int64_t station_room_in_packets(const uint8_t *script, size_t script_len, size_t size);
 
 /* The slots of a misfit; sets, rows and columns count from 0, and a slot is 0 where there is none. */
 #define STATION_FIT_SLOTS 4

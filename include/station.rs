@@ -9,7 +9,7 @@
 // call is unsafe, because nothing checks that a pointer is valid for the length that follows it.
 
 pub const STATION_VERSION_MAJOR: u32 = 3;
-pub const STATION_VERSION_MINOR: u32 = 0;
+pub const STATION_VERSION_MINOR: u32 = 1;
 pub const STATION_MOST_REPLY: usize = 65535;
 pub const STATION_MOST_PACKETS: usize = 66575;
 
@@ -352,6 +352,7 @@ unsafe extern "C" {
         buf_len: usize,
     ) -> i64;
     pub fn station_room(script: *const u8, script_len: usize) -> i64;
+    pub fn station_room_in_packets(script: *const u8, script_len: usize, size: usize) -> i64;
     pub fn station_fit(script: *const u8, script_len: usize, out: *mut u64, out_len: usize) -> i64;
     pub fn station_fresh(position: *mut u64, position_len: usize) -> i64;
     pub fn station_step(

@@ -1,7 +1,7 @@
-//! Replies to scripts: rows of one kind, as many as there is room for.
+//! Replies to scripts, and the room for them: rows of one kind, as many as there is room for.
 
 use crate::answers::counted::counted;
-use crate::answers::packets::{HEADER, joined};
+use crate::answers::packets::{HEADER, cut, joined};
 use crate::cases::{Case, Outcome, SIZES, Side};
 use crate::protocol;
 use crate::query_response::{
@@ -67,7 +67,41 @@ pub fn replies() -> Vec<Case> {
             cases.push(Case::new(name, "result", run));
         }
     }
+    cases.extend(rooms());
     cases
+}
+
+fn rooms() -> Vec<Case> {
+    let mut cases = vec![Case::new("smallest room", "result", |side, measure| {
+        room(rows(&BARE, 0), None, side, measure)
+    })];
+    for kind in &KINDS {
+        for (packets, size) in [("", None), (" in packets of 512", Some(512))] {
+            let name = format!("room for {}{packets}, 64 KB", kind.name);
+            let run = move |side, measure| room(filled(kind, 65_535), size, side, measure);
+            cases.push(Case::new(name, "result", run));
+        }
+    }
+    cases
+}
+
+/// The room for a reply as one packet or in packets of a size. The Rust has no call for it: it builds the reply. The
+/// answer is as many zeros.
+fn room(
+    response: QueryResponse,
+    size: Option<usize>,
+    side: Side,
+    measure: Measure,
+) -> Option<Outcome> {
+    let script = script(&response);
+    let (room, time) = match side {
+        Side::Ours => ours_room(&script, size, measure)?,
+        Side::Rust => {
+            let (reply, time) = measure.of(|| build(&response));
+            (size.map_or(reply.len(), |size| cut(&reply[HEADER..], size).len()), time)
+        }
+    };
+    Some(Outcome { input: script.len(), answer: vec![0; room], time })
 }
 
 /// Our packets of a size, beside the Rust's one: the answer is their payload in one packet.
@@ -177,6 +211,21 @@ fn ours_in_packets(script: &[u8], size: usize, measure: Measure) -> Option<(Vec<
     let (length, time) = measure.of(call);
     packets.truncate(length as usize);
     Some((packets, time))
+}
+
+#[cfg(feature = "result")]
+fn ours_room(script: &[u8], size: Option<usize>, measure: Measure) -> Option<(usize, f64)> {
+    use crate::station::{station_room, station_room_in_packets};
+    let (room, time) = measure.of(|| match size {
+        None => station_room(script),
+        Some(size) => station_room_in_packets(script, size),
+    });
+    Some((room as usize, time))
+}
+
+#[cfg(not(feature = "result"))]
+fn ours_room(_: &[u8], _: Option<usize>, _: Measure) -> Option<(usize, f64)> {
+    None
 }
 
 #[cfg(not(feature = "result"))]

@@ -30,6 +30,7 @@
     X(build_query_results_in_packets, IN(0), N(0), BUF)                                       \
     X(cut_payload, IN(0), N(0), BUF)                                                          \
     X(room, IN(0))                                                                            \
+    X(room_in_packets, IN(0), N(0))                                                           \
     X(fit, IN(0), OUT)                                                                        \
     X(fresh, POSITION)                                                                        \
     X(step, IN(0), POSITION, OUT)                                                             \

@@ -14,7 +14,6 @@ SLOTS = {
 MISFITS = {"class": 1, "column": 2, "cell": 3}
 VALUES = {"null": 0, "num": 1, "part": 2, "max": 3}
 NO_PART = 2**64 - 1
-SPARE_ROOM = 32
 HEADER_BYTES = 8
 TOO_SHORT = "-20"
 
@@ -53,9 +52,13 @@ class Listed:
             yield from self.login(arguments, answer)
         elif name == "parse_rpc_request":
             yield from self.procedure(arguments, answer)
+        elif name == "room_in_packets":
+            yield f"{name} i:{expanded(arguments[1])} n:{arguments[0]}", answer.replace("refused ", "-")
         elif name == "database":
             yield from self.database(*map(expanded, arguments), expanded(answer))
-        elif name in ("room", "fit", "parse_transaction_manager_request", "is_whitespace"):
+        elif name in ("room", "parse_transaction_manager_request"):
+            yield f"{name} i:{expanded(arguments[0])}", answer.replace("refused ", "-")
+        elif name in ("fit", "is_whitespace"):
             yield from getattr(self, name)(expanded(arguments[0]), answer)
         elif name in self.slots:
             yield from self.numbers(name, expanded(arguments[0]), answer)
@@ -115,12 +118,6 @@ class Listed:
         yield f"database i:{body} i:{fallback} o:1", TOO_SHORT
         yield f"database i:{body} i:{fallback} o:0", TOO_SHORT
 
-    def room(self, script, answer):
-        def right(said):
-            return said.isdigit() and int(answer) <= int(said) <= int(answer) + SPARE_ROOM
-
-        yield f"room i:{script}", f"-{answer.split()[1]}" if answer.startswith("refused") else right
-
     def fit(self, script, answer):
         enough, few = sizes(self.slots["fit"])
         if answer == "fits" or answer.startswith("refused"):
@@ -133,9 +130,6 @@ class Listed:
             yield f"fit i:{script} o:{size}", lambda said: said in told
         for size in few:
             yield f"fit i:{script} o:{size}", TOO_SHORT
-
-    def parse_transaction_manager_request(self, body, answer):
-        yield f"parse_transaction_manager_request i:{body}", answer.replace("refused ", "-")
 
     def is_whitespace(self, unit, answer):
         yield f"is_whitespace n:{int.from_bytes(bytes.fromhex(unit), 'little')}", answer

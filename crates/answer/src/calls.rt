@@ -13,6 +13,7 @@ pub(crate) enum Call {
     Reply,
     Packets,
     Room,
+    Sized,
     Fit,
     Header,
     Batch,
@@ -39,6 +40,9 @@ pub(crate) fn named(argument: usize) -> Call {
     }
     if check::same(word, b"room") {
         return Call::Room;
+    }
+    if check::same(word, b"sized") {
+        return Call::Sized;
     }
     if check::same(word, b"fit") {
         return Call::Fit;
@@ -79,6 +83,7 @@ pub(crate) fn answer(call: Call, input: &[u8], out: &mut [u8], at: usize) -> usi
         Call::Reply => scripts::reply(input, out, at),
         Call::Packets => scripts::packets(input, out, at),
         Call::Room => scripts::room(input, out, at),
+        Call::Sized => scripts::sized(input, out, at),
         Call::Fit => scripts::fit(input, out, at),
         Call::Header => answer_header(input, out, at),
         Call::Batch => requests::batch(input, out, at),

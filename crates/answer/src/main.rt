@@ -53,6 +53,6 @@ fn many(call: Call) {
 fn usage() {
     io::write_all(
         libc::STDERR_FILENO,
-        b"usage: answer [many] CALL < INPUT, where CALL is one of: reply packets room fit tokens places batch trans descriptor fedauth header login rpc\n",
+        b"usage: answer [many] CALL < INPUT, where CALL is one of: reply packets room sized fit tokens places batch trans descriptor fedauth header login rpc\n",
     );
 }

@@ -39,19 +39,22 @@ fn packet_line(packet: &[u8], out: &mut [u8], at: usize) -> usize {
     lines::end(out, at)
 }
 
+// The script after a packet size.
+fn after_size(input: &[u8]) -> &[u8] {
+    wire::part_of(
+        input,
+        Part {
+            start: SIZE,
+            len: wire::left(input, SIZE),
+        },
+    )
+}
+
 // packet HEX of each packet, of the size that stands before the script
 pub(crate) fn packets(input: &[u8], out: &mut [u8], at: usize) -> usize {
     let size = wire::get_u32_le(input, 0);
-    let rest = Part {
-        start: SIZE,
-        len: wire::left(input, SIZE),
-    };
     let mut packets = [0u8; PACKETS];
-    match result::build_query_results_in_packets(
-        wire::part_of(input, rest),
-        size as usize,
-        &mut packets,
-    ) {
+    match result::build_query_results_in_packets(after_size(input), size as usize, &mut packets) {
         Built::Written(length) => {
             let all = Part {
                 start: 0,
@@ -81,8 +84,22 @@ fn packet_lines(packets: &[u8], size: u32, out: &mut [u8], at: usize) -> usize {
 
 // room N
 pub(crate) fn room(input: &[u8], out: &mut [u8], at: usize) -> usize {
-    match result::room_estimate(input) {
-        Room::Bytes(room) => lines::number_line(out, at, b"room", room as u64),
+    room_line(result::room_estimate(input), out, at)
+}
+
+// room N, in packets of the size that stands before the script
+pub(crate) fn sized(input: &[u8], out: &mut [u8], at: usize) -> usize {
+    let size = wire::get_u32_le(input, 0);
+    room_line(
+        result::room_in_packets(after_size(input), size as usize),
+        out,
+        at,
+    )
+}
+
+fn room_line(room: Room, out: &mut [u8], at: usize) -> usize {
+    match room {
+        Room::Bytes(n) => lines::number_line(out, at, b"room", n as u64),
         Room::Refused(number) => lines::refused(out, at, number),
     }
 }

@@ -6,3 +6,4 @@ pub mod Turns
 pub mod Values
 pub mod Walks
 pub mod Replies
+pub mod Numbers

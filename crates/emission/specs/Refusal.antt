@@ -1,7 +1,8 @@
 -- Which scripts are refused, and by which number (document 01, 'Who causes which refusal'): 11 to 14 of the script, then, in what
 -- is emitted only, the first of 15 and 16, then 17. Rests on Emission, token's names and script's verdict.
 -- docs/FORMATS.md, 'Refusals', has it in words.
-use Prim.Native.Nat.{ℕ}
+use Prim.Native.Nat.{ℕ, _≤_}
+use mathlib.Core.Path.{_≡_}
 use mathlib.Core.Bool.{Bool, false, cond, _||_}
 use mathlib.Core.List.{List, [], _∷_}
 use lib.Dec.{eqb, ltb}
@@ -48,3 +49,7 @@ refusalOf s =
     cond (eqb (verdictOf s) 0)
     (cond (eqb (faultIn (pieces s)) 0) (cond (ltb 65535 (length (replyOf s))) resultTooLong 0) (faultIn (pieces s)))
     (verdictOf s)
+
+-- no other number refuses a script
+abbrev pub RefusedByOwn : Type 0
+RefusedByOwn = (s : List ℕ) → (refusalOf s ≡ 0 → ⊥) → (11 ≤ refusalOf s) × (refusalOf s ≤ 17)

@@ -13,7 +13,7 @@ use borrow.Author.Tests.{leb-true, le-leb, lt-leb}
 use Rattle.wire.proofs.Cases.{split}
 use Rattle.packet.specs.Header.{headerBytes}
 use Rattle.packet.specs.Cut.{partHeader, partBytes, cutFrom, packetsOf}
-use Rattle.packet.specs.Agreed.{isPacketSize, partCount, packetCount, packetsLength}
+use Rattle.packet.specs.Agreed.{isPacketSize, partCount, packetCount, packetsLength, LengthInPackets}
 use Rattle.packet.proofs.Sizes.{length-header}
 
 -- two tests that both hold
@@ -106,9 +106,19 @@ module _ (room : ℕ) (some : 1 ≤ room) where
       ∙ omega (arith, length-part number false (take room p), count-more (length p) (omega arith))))
 
 -- the length of the packets of a payload at a size
-pub length-packets : (size : ℕ) (p : List ℕ) → 9 ≤ size → length (packetsOf size p) ≡ packetsLength size (length p)
+pub length-packets : LengthInPackets
 unfolding packetsOf packetsLength packetCount cutFrom
 length-packets size p h =
     split 1 (length p)
     (λ l. length-cut (size - 8) (omega arith) (length p) 1 p l (omega arith))
     (λ l. let z : length p ≡ 0 = omega arith in rw (z, count-none (size - 8) (omega arith)))
+
+-- no more than eight bytes for each byte and for each of a packet's
+pub length-bound : (size n : ℕ) → packetsLength size n ≤ n + (n + size) * 8
+unfolding packetsLength packetCount
+length-bound size n = omega (arith, count-bound (size - 8) n)
+
+-- at the borders: a packet's payload, one byte more, and the longest payload at the least and at the most size
+bordering : (packetsLength 512 504 ≡ 512) × (packetsLength 512 505 ≡ 521) × (packetsLength 512 65527 ≡ 66575) × (packetsLength 32767 65527 ≡ 65551)
+unfolding packetsLength packetCount partCount
+bordering = (refl, refl, refl, refl)

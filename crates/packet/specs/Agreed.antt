@@ -1,6 +1,7 @@
 -- The packet sizes that can be agreed at login, how many packets of a size a payload becomes, and what is left of a buffer in
 -- which a payload was cut (document 02, 2026-02, 'Packets of the agreed size'). Rests on Cut.
-use Prim.Native.Nat.{ℕ, _+_, _-_, _*_, _/_}
+use Prim.Native.Nat.{ℕ, _+_, _-_, _*_, _/_, _≤_}
+use mathlib.Core.Path.{_≡_}
 use mathlib.Core.Bool.{Bool, cond, _&&_}
 use mathlib.Core.List.{List, []}
 use lib.Dec.{leb}
@@ -23,6 +24,10 @@ packetCount size n = partCount (size - 8) n
 -- how many bytes these packets have: the payload's, and eight for each header
 unfoldable pub packetsLength : ℕ → ℕ → ℕ
 packetsLength size n = n + packetCount size n * 8
+
+-- so long are the packets of every payload, at every size that has room for payload: one law for builders, for room and for cutting
+abbrev pub LengthInPackets : Type 0
+LengthInPackets = (size : ℕ) (p : List ℕ) → 9 ≤ size → length (packetsOf size p) ≡ packetsLength size (length p)
 
 -- the packets of a payload; of a size without room for payload, none
 unfoldable pub wholePackets : ℕ → List ℕ → List ℕ

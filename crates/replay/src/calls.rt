@@ -38,7 +38,9 @@ pub(crate) fn holds(line: &[u8]) -> bool {
 
 // Whether a number stands between the name of a call and its input.
 fn follows_number(name: &[u8]) -> bool {
-    check::same(name, b"parse_login7") | check::same(name, b"parse_rpc_request")
+    check::same(name, b"parse_login7")
+        | check::same(name, b"parse_rpc_request")
+        | check::same(name, b"room_in_packets")
 }
 
 // The same of a call whose answer is words.
@@ -54,7 +56,10 @@ fn tell(line: &[u8], name: &[u8], input: &[u8], out: &mut [u8]) -> usize {
         return replies::tokens(input, out);
     }
     if check::same(name, b"room") {
-        return scripts::room(line, input, out);
+        return scripts::room(input, out);
+    }
+    if check::same(name, b"room_in_packets") {
+        return scripts::room_in_packets(line, input, out);
     }
     if check::same(name, b"fit") {
         return scripts::fits(input, out);

@@ -1,28 +1,28 @@
-// The room estimate and the fit check, whose answers document 01 leaves free within bounds.
+// The room for replies, and the fit check, of which document 01 leaves free which misfit it answers.
 use crate::told;
 use crate::words;
 use fit::Fit;
 use fit::Misfit;
 use result::Room;
 
-// How much more than the reply's length the room estimate may be.
-const SPARE_ROOM: u64 = 32;
-
-// The reply's length that the line holds where the estimate is within its bounds, else the estimate itself.
-pub(crate) fn room(line: &[u8], input: &[u8], out: &mut [u8]) -> usize {
-    match result::room_estimate(input) {
-        Room::Bytes(room) => tell_room(words::number(words::answer(line)), room as u64, out),
-        Room::Refused(number) => told::refused(out, 0, number),
-    }
+// The room for a script's reply.
+pub(crate) fn room(input: &[u8], out: &mut [u8]) -> usize {
+    tell_room(result::room_estimate(input), out)
 }
 
-fn tell_room(least: u64, room: u64, out: &mut [u8]) -> usize {
-    if least <= room {
-        if room - least <= SPARE_ROOM {
-            return told::number(out, 0, least);
-        }
+// The same in packets of a size: SIZE SCRIPT.
+pub(crate) fn room_in_packets(line: &[u8], input: &[u8], out: &mut [u8]) -> usize {
+    tell_room(
+        result::room_in_packets(input, words::u64_at(line, 1) as usize),
+        out,
+    )
+}
+
+fn tell_room(room: Room, out: &mut [u8]) -> usize {
+    match room {
+        Room::Bytes(n) => told::number(out, 0, n as u64),
+        Room::Refused(number) => told::refused(out, 0, number),
     }
-    told::number(out, 0, room)
 }
 
 // fits, or a misfit: class SET, column SET COLUMN or cell SET ROW COLUMN, any of those that the line holds

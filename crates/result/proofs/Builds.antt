@@ -1,12 +1,12 @@
 -- What the builder answers and leaves, from the measure of a script and what was written. Assumes nothing.
-use mathlib.Core.Path.{_≡_, refl, sym, ap, _∙_}
+use mathlib.Core.Path.{_≡_, sym, ap, _∙_}
 use mathlib.Core.Bool.{true, false}
 use mathlib.Core.List.{List, _++_}
 use Prim.Native.Nat.{ℕ, _+_, _%_, _≤_, _<_}
 use native.Mathlib.Omega.{arith}
 use lib.Dec.{eqb}
 use lib.ListN.{length}
-use borrow.Author.Tests.{eq-eqb, eqb-true, lt-ltb, le-ltb, le-leb}
+use borrow.Author.Tests.{eqb-true, lt-ltb, le-ltb}
 use Rattle.wire.specs.Be.{be}
 use Rattle.wire.specs.Over.{Wrote, overwrite}
 use Rattle.wire.proofs.Le.{le-mod}
@@ -22,7 +22,7 @@ use Rattle.result.specs.Built.{builtOf, bufferOf}
 use Rattle.emission.proofs.BySets.{by-sets, no-verdict}
 use Rattle.result.specs.declared.Room.the-variants as room
 use Rattle.emission.specs.Length.{measureOf}
-use Rattle.result.specs.Room.{isRoom}
+use Rattle.result.specs.Room.{roomOf}
 use Rattle.wire.proofs.Cases.{by-test}
 
 module _ (s : List ℕ) (buf : List ℕ) where
@@ -36,8 +36,9 @@ module _ (s : List ℕ) (buf : List ℕ) where
     unfolding measureOf
     number-is = let g = rw is-refused at e in cc
 
-    pub room-refused : isRoom s (room.Refused f) ≡ true
-    room-refused = rw (is-refused, number-is, eq-eqb f f refl)
+    pub room-refused : room.Refused f ≡ roomOf s
+    unfolding roomOf
+    room-refused = rw (is-refused, number-is)
 
     pub refused-answer : Refused f ≡ builtOf s (length buf)
     unfolding builtOf
@@ -57,8 +58,9 @@ module _ (s : List ℕ) (buf : List ℕ) where
     unfolding measureOf
     size-is = let g = rw is-accepted at e in cc
 
-    pub room-size : isRoom s (room.Bytes n) ≡ true
-    room-size = rw (is-accepted, size-is, le-leb n n (omega arith), le-leb n (n + 32) (omega arith))
+    pub room-size : room.Bytes n ≡ roomOf s
+    unfolding roomOf
+    room-size = rw (is-accepted, size-is)
 
     pub short-answer : length buf < n → Refused 20 ≡ builtOf s (length buf)
     unfolding builtOf

@@ -1,4 +1,4 @@
--- What the builder of packets answers and leaves: from a payload that was written and cut, and from the measure of a script.
+-- What the builder of packets answers and leaves, and the room for its packets: from a payload that was written and cut, and from the measure of a script.
 -- Assumes nothing.
 use mathlib.Core.Path.{_≡_, sym, ap, _∙_}
 use mathlib.Core.Bool.{true, false}
@@ -13,7 +13,7 @@ use Rattle.wire.proofs.Cases.{by-test}
 use Rattle.packet.specs.Cut.{packetsOf}
 use Rattle.packet.specs.Agreed.{isPacketSize, packetCount, packetsLength, cutLength, cutBuffer}
 use Rattle.packet.proofs.Sizes.{length-packet}
-use Rattle.packet.proofs.Counts.{length-packets}
+use Rattle.packet.proofs.Counts.{size-bounds, length-packets}
 use Rattle.packet.proofs.Cutting.{cut-written}
 use Rattle.emission.specs.declared.Measure.the-variants as measure
 use Rattle.emission.specs.Emission.{pieces, bytesIn, replyOf}
@@ -24,6 +24,8 @@ use Rattle.emission.specs.Length.{measureOf}
 use Rattle.emission.proofs.BySets.{by-sets, no-verdict}
 use Rattle.result.specs.declared.Built.{Built}
 use Rattle.result.specs.declared.Built.the-variants.{Written, Refused}
+use Rattle.result.specs.declared.Room.the-variants as room
+use Rattle.result.specs.Room.{roomAt}
 use Rattle.result.specs.Built.{fitted, leaves, repliesOf, builtInPackets, bufferInPackets}
 use Rattle.result.proofs.Builds.{is-refused, number-is, is-accepted, size-is}
 
@@ -71,6 +73,10 @@ module _ (size : ℕ) (s buf : List ℕ) where
   unfolding builtInPackets bufferInPackets
   wrong-size h = (rw h, rw h)
 
+  pub wrong-room : isPacketSize size ≡ false → room.Refused 32 ≡ roomAt size s
+  unfolding roomAt
+  wrong-room h = rw h
+
   module _ (ok : isPacketSize size ≡ true) where
     pub refused : (f : ℕ) → measureOf s ≡ measure.Refused f → (Refused f ≡ builtInPackets size s (length buf)) × (buf ≡ bufferInPackets size s buf)
     unfolding builtInPackets bufferInPackets
@@ -78,6 +84,10 @@ module _ (size : ℕ) (s buf : List ℕ) where
         let no = is-refused s buf f e in
         let number = number-is s buf f e in
         (rw (ok, no, number), rw (ok, no))
+
+    pub refused-room : (f : ℕ) → measureOf s ≡ measure.Refused f → room.Refused f ≡ roomAt size s
+    unfolding roomAt
+    refused-room f e = rw (ok, is-refused s buf f e, number-is s buf f e)
 
     module _ (n : ℕ) (e : measureOf s ≡ measure.Size n) where
       accepted : eqb (refusalOf s) 0 ≡ true
@@ -104,3 +114,10 @@ module _ (size : ℕ) (s buf : List ℕ) where
           → (b ≡ builtInPackets size s (length buf)) × (m ≡ bufferInPackets size s buf)
       unfolding builtInPackets bufferInPackets repliesOf
       sent a b = (rw (ok, accepted) (rw same-bytes at a), rw (ok, accepted) (rw same-bytes at b))
+
+      -- the packets have as many bytes as their length says
+      pub room-sum : {total : ℕ} → total ≡ packetsLength size (n - 8) → room.Bytes total ≡ roomAt size s
+      unfolding roomAt repliesOf
+      room-sum {total} t =
+          let sum : length (packetsOf size (bytesIn (pieces s))) ≡ total = length-packets size (bytesIn (pieces s)) (omega (arith, size-bounds size ok)) ∙ rw (← same-bytes, ← payload-size) (sym t) in
+          rw (ok, accepted, sum)

@@ -1,3 +1,4 @@
 pub mod Writes
 pub mod Builds
 pub mod InPackets
+pub mod JustEnough

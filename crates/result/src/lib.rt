@@ -9,7 +9,6 @@ use token::ColumnValue;
 use token::KnownColumnValue;
 use token::KnownDataType;
 ghost use mathlib.Core.Path.{_≡_};
-ghost use mathlib.Core.Bool.{true};
 ghost use mathlib.Core.List.{[]};
 ghost use mathlib.Core.Option.{some};
 ghost use Prim.Native.Nat.{_+_, _^_, _≤_, _<_};
@@ -24,7 +23,7 @@ ghost use Rattle.emission.specs.Emission.{infoToken, valueCell, bytesIn, column
 ghost use Rattle.emission.specs.Walk.{beginPieces, piecesOf, rowsAfter, emitFrom, leadPieces, setsOf, walked};
 ghost use Rattle.emission.specs.Runs.{errorFound};
 ghost use Rattle.result.specs.Built.{fitted, leaves, builtOf, bufferOf, builtInPackets, bufferInPackets};
-ghost use Rattle.result.specs.Room.{isRoom};
+ghost use Rattle.result.specs.Room.{roomOf, roomAt};
 ghost use Rattle.result.specs.Inner.{Put};
 
 // What a builder answers: the bytes written, or the refusal's number.
@@ -444,18 +443,33 @@ pub fn build_query_results_in_packets(script: &[u8], size: usize, buf: &mut [u8]
     }
 }
 
-// Room to lend for a script's reply, or the script's refusal.
+// Room to lend for a script's reply, or a refusal.
 pub enum Room {
     Bytes(usize),
     Refused(u8),
 }
 
-// The room estimate: at least the reply's length, and at most 32 more.
+// The room for a script's reply as one packet: exactly its length.
 pub fn room_estimate(script: &[u8]) -> Room
-    ensures { λ r. ⌜ isRoom (now (script .entry)) r ≡ true ⌝ }
+    ensures { λ r. ⌜ r ≡ roomOf (now (script .entry)) ⌝ }
 {
     match emission::reply_length(script) {
         Measure::Size(length) => Room::Bytes(length),
         Measure::Refused(number) => Room::Refused(number),
+    }
+}
+
+// The room for it in packets of a size: exactly the sum of all packets with their headers.
+pub fn room_in_packets(script: &[u8], size: usize) -> Room
+    ensures { λ r. ⌜ r ≡ roomAt size (now (script .entry)) ⌝ }
+{
+    if !packet::is_packet_size(size) {
+        return Room::Refused(PACKET_SIZE);
+    }
+    match emission::reply_length(script) {
+        Measure::Refused(number) => Room::Refused(number),
+        Measure::Size(length) => {
+            Room::Bytes(packet::packets_length(size as u16, (length - 8) as u16))
+        }
     }
 }

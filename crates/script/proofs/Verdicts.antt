@@ -1,8 +1,8 @@
--- A turn of the verdict over the records, and what its answer says. Assumes nothing.
+-- A turn of the verdict over the records, what its answer says, and its numbers. Assumes nothing.
 use mathlib.Core.Path.{_≡_, refl, sym, ap, _∙_}
-use mathlib.Core.List.{List}
-use mathlib.Core.Bool.{Bool, true, false, _&&_}
-use Prim.Native.Nat.{ℕ, _+_, _-_}
+use mathlib.Core.List.{List, [], _∷_}
+use mathlib.Core.Bool.{Bool, true, false, cond, _&&_}
+use Prim.Native.Nat.{ℕ, _+_, _-_, _≤_}
 use native.Mathlib.Nat.{add-sub-cancel-left}
 use lib.ListN.{take, drop}
 use native.Mathlib.Omega.{arith}
@@ -13,9 +13,11 @@ use Rattle.script.specs.declared.Checked.{Checked}
 use Rattle.script.specs.declared.Checked.the-variants.{Accepted, Refused}
 use Rattle.script.specs.declared.Found.the-variants.{Record, Cut, End}
 use Rattle.script.specs.declared.Stage.{Stage}
-use Rattle.script.specs.Records.{records, recordAt}
-use Rattle.script.specs.Order.{stageAfter}
-use Rattle.script.specs.Verdict.{faultOf, endFault, verdictFrom, verdictOf, checkedOf}
+use Rattle.script.specs.declared.Stage.the-variants.{Start, Columns, Leading, Infos, Rows, TextChunks, ByteChunks, Trailing}
+use Rattle.script.specs.Records.{Item, item, cut, records, recordAt}
+use Rattle.script.specs.Order.{allowed, stageAfter}
+use Rattle.script.specs.Shape.{shaped, textsOf}
+use Rattle.script.specs.Verdict.{allWellFormed, faultOf, endFault, verdictFrom, verdictOf, checkedOf}
 use Rattle.script.proofs.Walk.{turn, cuts, ends}
 
 -- three tests, in one expression and one after another
@@ -79,3 +81,46 @@ module _ (s : List ℕ) where
         let v : verdictOf s ≡ 0 = sym refused-by ∙ z in
         let a : Accepted ≡ Refused n = rw v at e in
         let c : _≡_ {A = ℕ} 0 1 = cc in omega arith
+
+-- ---- the numbers that refuse a script
+
+-- 0, or one of 11 to 17
+abbrev pub Own : ℕ → Type 0
+Own n = (n ≡ 0 → ⊥) → (11 ≤ n) × (n ≤ 17)
+
+pub own-none : Own 0
+own-none z = absurd (z refl)
+
+-- by a test, one of two such numbers
+pub own-either : (t : Bool) {m n : ℕ} → Own m → Own n → Own (cond t m n)
+own-either true a b = a
+own-either false a b = b
+
+fault-own : (st : Stage) (k : ℕ) (p : List ℕ) → Own (faultOf st k p)
+unfolding faultOf
+fault-own st k p =
+    own-either (allowed st k)
+    (own-either (shaped st k p)
+    (own-either (allWellFormed (textsOf k p)) own-none (λ z. (omega arith, omega arith)))
+    (λ z. (omega arith, omega arith)))
+    (λ z. (omega arith, omega arith))
+
+end-own : (st : Stage) → Own (endFault st)
+end-own Start = λ z. (omega arith, omega arith)
+end-own Columns = own-none
+end-own Leading = own-none
+end-own Infos = own-none
+end-own Rows = own-none
+end-own TextChunks = own-none
+end-own ByteChunks = own-none
+end-own Trailing = own-none
+
+from-own : (st : Stage) (rs : List Item) → Own (verdictFrom st rs)
+unfolding verdictFrom
+from-own st [] = end-own st
+from-own st (cut ∷ rs) = λ z. (omega arith, omega arith)
+from-own st (item k p ∷ rs) = own-either (eqb (faultOf st k p) 0) (from-own (stageAfter st k p) rs) (fault-own st k p)
+
+pub verdict-own : (s : List ℕ) → Own (verdictOf s)
+unfolding verdictOf
+verdict-own s = from-own Start (records s)

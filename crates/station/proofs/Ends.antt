@@ -1,6 +1,6 @@
 -- How exports end: one law for each way, over the outcome, the lent slots and the number. Assumes nothing.
 use Prim.Native.Nat.{ℕ, _^_, _<_, _≤_}
-use mathlib.Core.Path.{_≡_, refl, sym, _∙_}
+use mathlib.Core.Path.{_≡_, refl, sym, ap, _∙_}
 use mathlib.Core.List.{List, []}
 use lib.ListN.{length}
 use lib.IntN.{ℤ}
@@ -41,6 +41,11 @@ written n out xs left h fits e = simp (le-ltb _ _ h) (toZ-pos w64 fits, e)
 pub silent : {p : Outcome} (out : List ℕ) → answers 0 [] ≡ p → Ended p out out (toZ w64 0)
 unfolding overwrite
 silent out q = rw (sym q) (written 0 out [] out (omega arith) (omega arith) refl)
+
+-- what a callee told of a value, handed on
+pub handed : {A : Type 0} (outcome : A → Outcome) {a b : A} {r : ℤ} → mag r < 2 ^ 63 → a ≡ b → r ≡ numberOf (outcome a)
+    → toZ w64 (ofZ w64 r) ≡ numberOf (outcome b)
+handed {A} outcome fits e q = toZ-ofZ {w = w64} (record { sfits = fits }) ∙ q ∙ ap (λ (x : A). numberOf (outcome x)) e
 
 -- the answer of an export without slots
 pub told : {p : Outcome} (n : ℕ) → n < 2 ^ 63 → answers n [] ≡ p → toZ w64 n ≡ numberOf p

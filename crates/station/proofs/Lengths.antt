@@ -1,30 +1,25 @@
 -- How long replies are: the bytes that a builder wrote, and room for a reply, are numbers that an i64 holds. Assumes nothing.
-use Prim.Native.Nat.{ℕ, zero, suc, _+_, _^_, _<_, _≤_}
-use mathlib.Core.Path.{_≡_, refl, sym, ap, _∙_}
-use mathlib.Core.Bool.{true, not, _&&_}
+use Prim.Native.Nat.{ℕ, _^_, _<_, _≤_}
+use mathlib.Core.Path.{_≡_, refl, sym, _∙_}
 use mathlib.Core.List.{List}
 use native.Mathlib.Omega.{arith}
-use lib.Dec.{eqb, ltb, leb}
+use lib.Dec.{eqb, ltb}
 use lib.ListN.{length}
-use lib.IntN.{ℤ}
-use lib.Signed.{mag}
-use mir.Syntax.{w64}
-use mir.Val.{toZ, ofZ}
-use mir.Facts.{toZ-ofZ, toZ-pos}
-use borrow.Author.Tests.{ltb-false, leb-true, eqb-true, eqb-false, not-true}
-use Rattle.emission.specs.Emission.{replyOf}
-use Rattle.emission.specs.Refusal.{refusalOf}
+use borrow.Author.Tests.{ltb-false, eqb-true}
+use Rattle.wire.proofs.Cases.{by-test}
+use Rattle.packet.specs.Cut.{packetsOf}
 use Rattle.packet.specs.Agreed.{isPacketSize}
-use Rattle.packet.proofs.Counts.{both}
-use Rattle.result.specs.Built.{fitted, builtOf, repliesOf, builtInPackets}
-use Rattle.result.proofs.InPackets.{not-long}
-use Rattle.result.specs.Room.{isRoom}
+use Rattle.packet.proofs.Sizes.{length-packet}
+use Rattle.packet.proofs.Counts.{size-bounds, length-packets, length-bound}
+use Rattle.emission.specs.Emission.{pieces, bytesIn, replyOf}
+use Rattle.emission.specs.Refusal.{refusalOf}
 use Rattle.result.specs.declared.Built.{Built}
 use Rattle.result.specs.declared.Built.the-variants.{Written, Refused}
+use Rattle.result.specs.declared.Room.{Room}
 use Rattle.result.specs.declared.Room.the-variants.{Bytes, Refused as RoomRefused}
-use Rattle.wire.proofs.Cases.{by-test}
-use Rattle.station.specs.Answer.{refuses, numberOf}
-use Rattle.station.specs.Results.{builtOutcome, roomTold}
+use Rattle.result.specs.Built.{fitted, builtOf, repliesOf, builtInPackets}
+use Rattle.result.specs.Room.{roomFor, roomOf, roomAt}
+use Rattle.result.proofs.InPackets.{not-long}
 
 -- a builder writes no more than the bytes that are lent
 abbrev Within : ℕ → Built → Type 0
@@ -55,27 +50,30 @@ fits s n h e k q = short n k h (within s n) (sym e ∙ q)
 pub fits-in-packets : {b : Built} (size : ℕ) (s : List ℕ) (n : ℕ) → n < 2 ^ 63 → b ≡ builtInPackets size s n → (k : ℕ) → b ≡ Written k → k < 2 ^ 63
 fits-in-packets size s n h e k q = short n k h (within-packets size s n) (sym e ∙ q)
 
--- and its number is told
-pub built : {b c : Built} {r : ℤ} → mag r < 2 ^ 63 → b ≡ c → r ≡ numberOf (builtOutcome b) → toZ w64 (ofZ w64 r) ≡ numberOf (builtOutcome c)
-built fit e q = toZ-ofZ {w = w64} (record { sfits = fit }) ∙ q ∙ ap (λ (x : Built). numberOf (builtOutcome x)) e
+-- so is room
+abbrev Small : Room → Type 0
+Small (Bytes n) = n < 2 ^ 63
+Small (RoomRefused n) = n ≡ n
 
--- room for it
-pub room-short : (s : List ℕ) (n : ℕ) → isRoom s (Bytes n) ≡ true → n ≤ 65567
-room-short s n e =
-    let h = both (eqb (refusalOf s) 0 && leb (length (replyOf s)) n) _ e in
-    let g = both (eqb (refusalOf s) 0) _ (h .0) in
-    omega (arith, leb-true n (length (replyOf s) + 32) (h .1), not-long s (eqb-true (refusalOf s) 0 (g .0)))
+small-for : (s bytes : List ℕ) → (refusalOf s ≡ 0 → length bytes < 2 ^ 63) → Small (roomFor s bytes)
+small-for s bytes h = by-test (eqb (refusalOf s) 0) (λ t. rw t (h (eqb-true (refusalOf s) 0 t))) (λ t. rw t refl)
 
--- as the number of an i64
-pub room-told : (s : List ℕ) (n : ℕ) → isRoom s (Bytes n) ≡ true → isRoom s (roomTold (toZ w64 n)) ≡ true
-unfolding roomTold
-room-told s n e = let h : n < 2 ^ 63 = omega (arith, room-short s n e) in rw (toZ-pos w64 h) e
+small-room : (s : List ℕ) → Small (roomOf s)
+unfolding roomOf
+small-room s = small-for s (replyOf s) (λ e. omega (arith, not-long s e))
 
--- and its refusal, which is not 0
-pub room-refused : (s : List ℕ) (n : ℕ) {r : ℤ} → isRoom s (RoomRefused n) ≡ true → mag r < 2 ^ 63 → r ≡ numberOf (refuses n)
-    → isRoom s (roomTold (toZ w64 (ofZ w64 r))) ≡ true
-unfolding roomTold numberOf
-room-refused s zero e fits q =
-    let h = both (not (eqb (refusalOf s) 0)) _ e in
-    absurd (eqb-false (refusalOf s) 0 (not-true _ (h .0)) (sym (eqb-true 0 (refusalOf s) (h .1))))
-room-refused s (suc n) e fits q = rw (toZ-ofZ {w = w64} (record { sfits = fits }) ∙ q) e
+small-in-packets : (size : ℕ) (s : List ℕ) → Small (roomAt size s)
+unfolding roomAt repliesOf replyOf
+small-in-packets size s =
+    let p = bytesIn (pieces s) in
+    by-test (isPacketSize size)
+    (λ o. let b = size-bounds size o in
+    rw o (small-for s (packetsOf size p)
+    (λ e. omega (arith, not-long s e, length-packet p, length-packets size p (omega arith), length-bound size (length p)))))
+    (λ o. rw o refl)
+
+pub room-fits : {r : Room} (s : List ℕ) → r ≡ roomOf s → (n : ℕ) → r ≡ Bytes n → n < 2 ^ 63
+room-fits s e n q = rw (sym e ∙ q) at (small-room s)
+
+pub room-in-packets-fits : {r : Room} (size : ℕ) (s : List ℕ) → r ≡ roomAt size s → (n : ℕ) → r ≡ Bytes n → n < 2 ^ 63
+room-in-packets-fits size s e n q = rw (sym e ∙ q) at (small-in-packets size s)

@@ -2,6 +2,7 @@ pub mod Signs
 pub mod Ends
 pub mod Ids
 pub mod Lengths
+pub mod Rooms
 pub mod Builds
 pub mod Twos
 pub mod Stepping

@@ -1,8 +1,11 @@
 -- What the exports that reply to scripts answer. Rests on the definitions of `result` and `fit`.
-use Prim.Native.Nat.{ℕ, suc}
+use Prim.Native.Nat.{ℕ, _+_, _≤_}
+use mathlib.Core.Path.{_≡_}
 use mathlib.Core.List.{List, [], _∷_}
-use lib.IntN.{ℤ, pos, negsuc}
+use lib.IntN.{ℤ, pos, negsuc, negℤ}
+use Rattle.refusals.specs.Numbers.{bufferTooShort}
 use Rattle.result.specs.Built.{builtOf, builtInPackets}
+use Rattle.result.specs.Room.{roomOf, roomAt}
 use Rattle.result.specs.declared.Built.{Built}
 use Rattle.result.specs.declared.Built.the-variants.{Written, Refused as BuiltRefused}
 use Rattle.result.specs.declared.Room.{Room}
@@ -12,7 +15,7 @@ use Rattle.fit.specs.declared.Misfit.{Misfit}
 use Rattle.fit.specs.declared.Misfit.the-variants.{Classification, Column, Cell}
 use Rattle.fit.specs.declared.Fit.{Fit}
 use Rattle.fit.specs.declared.Fit.the-variants.{Yes, No, Refused as FitRefused}
-use Rattle.station.specs.Answer.{Outcome, answers, refuses}
+use Rattle.station.specs.Answer.{Outcome, answers, refuses, numberOf}
 
 -- the bytes written
 abbrev pub builtOutcome : Built → Outcome
@@ -27,10 +30,31 @@ builtCall s room = builtOutcome (builtOf s room)
 unfoldable pub inPacketsCall : (size : ℕ) → List ℕ → (room : ℕ) → Outcome
 inPacketsCall size s room = builtOutcome (builtInPackets size s room)
 
--- the room estimate that an i64 tells: room for so many bytes, or by -N the refusal N
-unfoldable pub roomTold : ℤ → Room
-roomTold (pos n) = Bytes n
-roomTold (negsuc n) = RoomRefused (suc n)
+-- the room in bytes
+abbrev pub roomOutcome : Room → Outcome
+roomOutcome (Bytes n) = answers n []
+roomOutcome (RoomRefused n) = refuses n
+
+-- for a reply as one packet
+unfoldable pub roomCall : List ℕ → Outcome
+roomCall s = roomOutcome (roomOf s)
+
+-- and in packets of a size
+unfoldable pub roomInPacketsCall : (size : ℕ) → List ℕ → Outcome
+roomInPacketsCall size s = roomOutcome (roomAt size s)
+
+-- A room that an export answers is just enough where it is n bytes: with as many or more the builder, which answers `answer m` where m
+-- bytes are lent, writes n bytes, and with one byte less or fewer it answers -20. Where it is -N, that is the builder's answer too,
+-- whatever is lent.
+abbrev pub EnoughLent : ℤ → (ℕ → ℤ) → Type 0
+EnoughLent (pos n) answer = ((m : ℕ) → n ≤ m → answer m ≡ pos n) × ((m : ℕ) → m + 1 ≤ n → answer m ≡ negℤ (pos bufferTooShort))
+EnoughLent (negsuc k) answer = (m : ℕ) → answer m ≡ negsuc k
+
+-- of every script, for both builders
+abbrev pub RoomEnough : Type 0
+RoomEnough =
+    (s : List ℕ) → EnoughLent (numberOf (roomCall s)) (λ m. numberOf (builtCall s m))
+    × ((size : ℕ) → EnoughLent (numberOf (roomInPacketsCall size s)) (λ m. numberOf (inPacketsCall size s m)))
 
 -- 1 with a misfit's kind (1 classification, 2 column, 3 cell), set, row and column, 0 where there is none
 abbrev pub misfitOutcome : Misfit → Outcome

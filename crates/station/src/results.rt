@@ -1,12 +1,10 @@
-// Replies to scripts: the reply builder under its four names and in packets, the room estimate and the fit check.
+// Replies to scripts: the reply builder under its four names and in packets, the room for both, and the fit check.
 ghost use mathlib.Core.Path.{_≡_};
-ghost use mathlib.Core.Bool.{true};
 ghost use Prim.Native.Nat.{ℕ, _<_, _^_};
 ghost use lib.ListN.{length};
 ghost use Rattle.result.specs.Built.{bufferOf, bufferInPackets};
-ghost use Rattle.result.specs.Room.{isRoom};
 ghost use Rattle.station.specs.Answer.{numberOf, answerOf, slotsOf};
-ghost use Rattle.station.specs.Results.{builtOutcome, builtCall, inPacketsCall, roomTold, misfitOutcome, fitCall};
+ghost use Rattle.station.specs.Results.{builtOutcome, builtCall, inPacketsCall, roomOutcome, roomCall, roomInPacketsCall, misfitOutcome, fitCall};
 use crate::slots::answered;
 use crate::slots::refused;
 use fit::Fit;
@@ -75,15 +73,31 @@ pub extern "C" fn station_build_query_results_in_packets(
     bytes_written(result::build_query_results_in_packets(script, size, buf))
 }
 
-// Room to lend for a script's reply: at least its length, and at most 32 more.
-#[no_mangle]
-pub extern "C" fn station_room(script: &[u8]) -> i64
-    ensures { λ r. ⌜ isRoom (now (script .entry)) (roomTold r) ≡ true ⌝ }
+// The bytes of a room, or its refusal.
+fn room_told(room: Room) -> i64
+    requires { ⌜ ((n : ℕ) → room ≡ Room.Bytes n → n < 2 ^ 63) ⌝ }
+    ensures { λ r. ⌜ r ≡ numberOf (roomOutcome room) ⌝ }
 {
-    match result::room_estimate(script) {
-        Room::Bytes(room) => room as i64,
+    match room {
+        Room::Bytes(n) => n as i64,
         Room::Refused(number) => refused(number),
     }
+}
+
+// Room to lend for a script's reply: exactly its length.
+#[no_mangle]
+pub extern "C" fn station_room(script: &[u8]) -> i64
+    ensures { λ r. ⌜ r ≡ numberOf (roomCall (now (script .entry))) ⌝ }
+{
+    room_told(result::room_estimate(script))
+}
+
+// Room to lend for it in packets of a size: exactly their sum, headers included.
+#[no_mangle]
+pub extern "C" fn station_room_in_packets(script: &[u8], size: usize) -> i64
+    ensures { λ r. ⌜ r ≡ numberOf (roomInPacketsCall size (now (script .entry))) ⌝ }
+{
+    room_told(result::room_in_packets(script, size))
 }
 
 // 1: kind (1 classification, 2 column, 3 cell), set, row and column of a misfit, 0 where there is none. 0: the script

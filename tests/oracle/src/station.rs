@@ -87,6 +87,7 @@ exports! {
     station_build_query_result_with_extras(script: bytes, reply: buffer);
     station_build_query_results_in_packets(script: bytes, size: usize, reply: buffer);
     station_room(script: bytes);
+    station_room_in_packets(script: bytes, size: usize);
     station_fit(script: bytes, out: slots);
     station_fresh(position: slots);
     station_step(packets: bytes, position: slots, out: slots);

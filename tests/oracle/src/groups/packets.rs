@@ -1,4 +1,4 @@
-//! Replies in packets of a size: those of scripts, and any payload cut.
+//! Replies in packets of a size: those of scripts, the room for them, and any payload cut.
 
 use super::Size;
 use crate::answers::packets::{HEADER, SIZES, joined, payload_in_packets, reply_in_packets};
@@ -19,6 +19,7 @@ const LONGEST_PAYLOAD: usize = LONGEST_RESULT - HEADER;
 
 struct Packets {
     replies: Check,
+    room: Check,
     payloads: Check,
 }
 
@@ -31,7 +32,7 @@ pub fn compare(size: Size) -> Vec<Check> {
     if size.large {
         packets.every_size(&mut random);
     }
-    vec![packets.replies, packets.payloads]
+    packets.checks()
 }
 
 /// One script at a size, for tests/fuzz.
@@ -39,29 +40,35 @@ pub fn compare(size: Size) -> Vec<Check> {
 pub fn compare_one(script: &[u8], size: usize) -> Vec<Check> {
     let mut packets = Packets::new();
     packets.script(script, size);
-    vec![packets.replies, packets.payloads]
+    packets.checks()
 }
 
 impl Packets {
     fn new() -> Self {
         Self {
             replies: Check::new("station_build_query_results_in_packets"),
+            room: Check::new("station_room_in_packets"),
             payloads: Check::new("station_cut_payload"),
         }
     }
 
-    /// A script, and the payload of its reply, at a size.
+    fn checks(self) -> Vec<Check> {
+        vec![self.replies, self.room, self.payloads]
+    }
+
+    /// A script, the room for its reply, and the reply's payload, at a size.
     fn script(&mut self, script: &[u8], size: usize) {
         let answer = reply_in_packets(script, size);
         if let (Ok(packets), Ok(packet)) = (&answer, reply(script)) {
             assert_eq!(joined(packets), packet[HEADER..]);
             self.payload(&packet[HEADER..], size);
         }
-        self.replies.buffer(
-            || format!("{} {size}", hex(script)),
-            &answer,
-            |buffer| station_build_query_results_in_packets(script, size, buffer),
-        );
+        let sum = answer.as_ref().map_err(|number| *number).map(|packets| sum(packets));
+        let input = || format!("{} {size}", hex(script));
+        self.room.number(input, sum, || station_room_in_packets(script, size));
+        self.replies.buffer(input, &answer, |buffer| {
+            station_build_query_results_in_packets(script, size, buffer)
+        });
     }
 
     fn payload(&mut self, payload: &[u8], size: usize) {
@@ -123,4 +130,15 @@ impl Packets {
             }
         }
     }
+}
+
+/// The sum of the packets' lengths, each by its header.
+fn sum(mut packets: &[u8]) -> i64 {
+    let mut sum = 0;
+    while !packets.is_empty() {
+        let length = u16::from_be_bytes([packets[2], packets[3]]);
+        sum += i64::from(length);
+        packets = &packets[usize::from(length)..];
+    }
+    sum
 }

@@ -1,4 +1,4 @@
-//! Scripts: the reply builder under its four names, the room estimate, the fit check.
+//! Scripts: the reply builder under its four names, the room for its reply, the fit check.
 
 use super::Size;
 use crate::answers::reply::{accepted, packet, rust_packet};
@@ -15,8 +15,6 @@ use crate::utf16;
 
 /// The slots of a misfit: kind, set, row, column.
 const SLOTS: usize = 4;
-/// How much more than the reply's length the room estimate may be.
-const SPARE_ROOM: i64 = 32;
 
 type Builder = fn(&[u8], &mut [u8]) -> i64;
 
@@ -96,13 +94,9 @@ impl Results {
         self.fit(script, &decoded, &reply);
     }
 
-    /// The estimate is free between the reply's length and 32 more.
+    /// The room is exactly the length of the Rust's packet.
     fn room(&mut self, script: &[u8], reply: &Answer<Vec<u8>>) {
-        let answer = reply.as_ref().map_err(|number| *number).map(|reply| {
-            let least = reply.len() as i64;
-            let room = station_room(script);
-            if (least..=least + SPARE_ROOM).contains(&room) { room } else { least }
-        });
+        let answer = reply.as_ref().map_err(|number| *number).map(|reply| reply.len() as i64);
         self.room.number(|| hex(script), answer, || station_room(script));
     }
 

@@ -1,6 +1,6 @@
-//! Scripts: the reply builder under its four names, the room estimate, the fit check.
+//! Scripts: the reply builder under its four names and in packets, the room for both, the fit check.
 
-use super::{Vectors, print_built, print_read};
+use super::{Vectors, print_built, print_line, print_read, words};
 use crate::answers::packets::reply_in_packets;
 use crate::answers::reply::{accepted, extras, narrow, packet, reply, trailing};
 use crate::hex::{packed, unhex};
@@ -16,6 +16,8 @@ const COLLATION: [u8; 5] = [0x09, 0x04, 0xD0, 0x00, 0x34];
 /// Sizes that can be agreed, and some that cannot.
 const SIZES: [usize; 5] = [512, 513, 600, 4_096, 32_767];
 const OUTSIDE: [usize; 3] = [511, 32_768, 0];
+/// The bytes of a bare set beside its classification: COLMETADATA and DONE.
+const BARE: usize = 16;
 
 type Build = fn(&Script) -> Answer<Vec<u8>>;
 /// Whether a narrowing of the Rust takes all that the script holds.
@@ -35,6 +37,7 @@ pub fn print(vectors: Vectors) {
     for script in vectors.inputs("room", cases(), any_script) {
         print_read("room", &script, reply(&script).map(|reply| reply.len()));
     }
+    room_in_packets(vectors);
     for script in vectors.inputs("fit", cases(), any_script) {
         let fit = accepted(&script).and_then(|script| Ok((packet(&script)?, misfits(&script))));
         print_read("fit", &script, fit.map(|(_, misfits)| fit_words(&misfits)));
@@ -67,6 +70,29 @@ fn in_packets(vectors: Vectors) {
         for size in [&[random.pick(&SIZES)], sizes].concat() {
             let answer = reply_in_packets(script, size);
             print_built(&mut random, name, &[packed(script), size.to_string()], &answer);
+        }
+    }
+}
+
+/// The room for the reply in packets: each script at a size that can be agreed, and some at sizes that cannot; payloads that
+/// fill packets of 512 bytes, one byte less and one more, and the longest.
+fn room_in_packets(vectors: Vectors) {
+    let name = "room_in_packets";
+    let mut random = vectors.random(name);
+    let mut print = |script: &[u8], size: usize| {
+        let answer = reply_in_packets(script, size).map(|packets| packets.len());
+        print_line(name, &[size.to_string(), packed(script)], &words(answer));
+    };
+    for (place, script) in vectors.inputs(name, cases(), any_script).iter().enumerate() {
+        let sizes = if place % 16 == 0 { &OUTSIDE[..] } else { &[] };
+        for size in [&[random.pick(&SIZES)], sizes].concat() {
+            print(script, size);
+        }
+    }
+    for payload in [503, 504, 505, 1_007, 1_008, 1_009, 65_526, 65_527] {
+        let script = written(&[set(&vec![0x5A; payload - BARE])]);
+        for size in [512, 513, 32_766, 32_767] {
+            print(&script, size);
         }
     }
 }

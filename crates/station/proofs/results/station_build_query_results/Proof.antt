@@ -2,8 +2,9 @@
 use denote.Ref.{now}
 use native.Mathlib.Omega.{arith}
 use lib.ListN.{length}
-use Rattle.station.proofs.Lengths.{fits, built}
-use Rattle.station.specs.Results.{builtCall}
+use Rattle.station.proofs.Ends.{handed}
+use Rattle.station.proofs.Lengths.{fits}
+use Rattle.station.specs.Results.{builtOutcome, builtCall}
 use borrow.Author.Needs.{needs}
 use Rattle.station.proofs.results.station_build_query_results.Statement.{statement}
 use Rattle.station.proofs.results.station_build_query_results.Tie as tie
@@ -19,7 +20,7 @@ same-length c = search needs
 
 returns : tie.Need-returns
 unfolding builtCall
-returns c = let e = c .before .before .before .build-query-results .ensures in (built (c .bytes-written .ok) (e .0) (c .bytes-written .ensures), e .1)
+returns c = let e = c .before .before .before .build-query-results .ensures in (handed builtOutcome (c .bytes-written .ok) (e .0) (c .bytes-written .ensures), e .1)
 
 pub station-build-query-results-spec : {M : Type 1} → statement M
 station-build-query-results-spec = tie.close (tie.spec build-query-results-requires bytes-written-requires same-length returns)

@@ -2,8 +2,9 @@
 use denote.Ref.{now}
 use native.Mathlib.Omega.{arith}
 use lib.ListN.{length}
-use Rattle.station.proofs.Lengths.{fits-in-packets, built}
-use Rattle.station.specs.Results.{inPacketsCall}
+use Rattle.station.proofs.Ends.{handed}
+use Rattle.station.proofs.Lengths.{fits-in-packets}
+use Rattle.station.specs.Results.{builtOutcome, inPacketsCall}
 use borrow.Author.Needs.{needs}
 use Rattle.station.proofs.results.station_build_query_results_in_packets.Statement.{statement}
 use Rattle.station.proofs.results.station_build_query_results_in_packets.Tie as tie
@@ -19,7 +20,7 @@ same-length c = search needs
 
 returns : tie.Need-returns
 unfolding inPacketsCall
-returns c = let e = c .before .before .before .build-query-results-in-packets .ensures in (built (c .bytes-written .ok) (e .0) (c .bytes-written .ensures), e .1)
+returns c = let e = c .before .before .before .build-query-results-in-packets .ensures in (handed builtOutcome (c .bytes-written .ok) (e .0) (c .bytes-written .ensures), e .1)
 
 pub station-build-query-results-in-packets-spec : {M : Type 1} → statement M
 station-build-query-results-in-packets-spec = tie.close (tie.spec build-query-results-in-packets-requires bytes-written-requires same-length returns)

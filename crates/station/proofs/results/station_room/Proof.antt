@@ -1,7 +1,8 @@
 -- `station::results::station_room` meets its contract. Assumes nothing.
 use denote.Ref.{now}
-use native.Mathlib.Omega.{arith}
-use Rattle.station.proofs.Lengths.{room-short, room-told, room-refused}
+use Rattle.station.proofs.Ends.{handed}
+use Rattle.station.proofs.Lengths.{room-fits}
+use Rattle.station.specs.Results.{roomOutcome, roomCall}
 use borrow.Author.Needs.{needs}
 use Rattle.station.proofs.results.station_room.Statement.{statement}
 use Rattle.station.proofs.results.station_room.Tie as tie
@@ -9,32 +10,12 @@ use Rattle.station.proofs.results.station_room.Tie as tie
 room-estimate-requires : tie.Need-room-estimate-requires
 room-estimate-requires c κs = search needs
 
-enum-known-room : tie.Need-enum-known-room
-enum-known-room c = search needs
-
-cast-result : tie.Need-cast-result
-cast-result c = omega (arith, room-short (now (c .before .before .before .before .before .args .script)) _ (rw (c .before .room .given .1) at (c .before .before .before .room-estimate .ensures)))
-
-enum-known-number : tie.Need-enum-known-number
-enum-known-number c = search needs
-
-refused-requires : tie.Need-refused-requires
-refused-requires c κs = search needs
+room-told-requires : tie.Need-room-told-requires
+room-told-requires c κs = let a = c .before .before .args in room-fits (now (a .script)) (c .room-estimate .ensures)
 
 returns : tie.Need-returns
-returns c = room-told (now (c .before .before .before .before .before .args .script)) _ (rw (c .before .room .given .1) at (c .before .before .before .room-estimate .ensures))
-
-returns-2 : tie.Need-returns-2
-returns-2 c = room-refused (now (c .before .before .before .before .before .before .args .script)) _ (rw (c .before .before .number .given .1) at (c .before .before .before .before .room-estimate .ensures)) (c .refused .ok) (c .refused .ensures)
+unfolding roomCall
+returns c = handed roomOutcome (c .room-told .ok) (c .before .room-estimate .ensures) (c .room-told .ensures)
 
 pub station-room-spec : {M : Type 1} → statement M
-station-room-spec =
-    tie.close
-    (tie.spec
-    room-estimate-requires
-    enum-known-room
-    cast-result
-    enum-known-number
-    refused-requires
-    returns
-    returns-2)
+station-room-spec = tie.close (tie.spec room-estimate-requires room-told-requires returns)
