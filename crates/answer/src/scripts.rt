@@ -3,7 +3,6 @@ use crate::lines;
 use fit::Fit;
 use fit::Misfit;
 use result::Built;
-use result::Room;
 use wire::Part;
 
 // The most bytes of a packet, and of a reply in packets: 65,527 bytes in packets of 512.
@@ -97,10 +96,10 @@ pub(crate) fn sized(input: &[u8], out: &mut [u8], at: usize) -> usize {
     )
 }
 
-fn room_line(room: Room, out: &mut [u8], at: usize) -> usize {
+fn room_line(room: Built, out: &mut [u8], at: usize) -> usize {
     match room {
-        Room::Bytes(n) => lines::number_line(out, at, b"room", n as u64),
-        Room::Refused(number) => lines::refused(out, at, number),
+        Built::Written(n) => lines::number_line(out, at, b"room", n as u64),
+        Built::Refused(number) => lines::refused(out, at, number),
     }
 }
 

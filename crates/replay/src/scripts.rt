@@ -3,7 +3,7 @@ use crate::told;
 use crate::words;
 use fit::Fit;
 use fit::Misfit;
-use result::Room;
+use result::Built;
 
 // The room for a script's reply.
 pub(crate) fn room(input: &[u8], out: &mut [u8]) -> usize {
@@ -18,10 +18,10 @@ pub(crate) fn room_in_packets(line: &[u8], input: &[u8], out: &mut [u8]) -> usiz
     )
 }
 
-fn tell_room(room: Room, out: &mut [u8]) -> usize {
+fn tell_room(room: Built, out: &mut [u8]) -> usize {
     match room {
-        Room::Bytes(n) => told::number(out, 0, n as u64),
-        Room::Refused(number) => told::refused(out, 0, number),
+        Built::Written(n) => told::number(out, 0, n as u64),
+        Built::Refused(number) => told::refused(out, 0, number),
     }
 }
 

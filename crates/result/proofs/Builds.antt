@@ -18,11 +18,9 @@ use Rattle.emission.specs.declared.Measure.the-variants as measure
 use Rattle.emission.specs.Emission.{pieces, bytesIn, replyOf}
 use Rattle.emission.specs.Walk.{walked}
 use Rattle.emission.specs.Refusal.{refusalOf}
-use Rattle.result.specs.Built.{builtOf, bufferOf}
+use Rattle.result.specs.Built.{roomOf, builtOf, bufferOf}
 use Rattle.emission.proofs.BySets.{by-sets, no-verdict}
-use Rattle.result.specs.declared.Room.the-variants as room
 use Rattle.emission.specs.Length.{measureOf}
-use Rattle.result.specs.Room.{roomOf}
 use Rattle.wire.proofs.Cases.{by-test}
 
 module _ (s : List ℕ) (buf : List ℕ) where
@@ -36,13 +34,13 @@ module _ (s : List ℕ) (buf : List ℕ) where
     unfolding measureOf
     number-is = let g = rw is-refused at e in cc
 
-    pub room-refused : room.Refused f ≡ roomOf s
+    pub room-refused : Refused f ≡ roomOf s
     unfolding roomOf
     room-refused = rw (is-refused, number-is)
 
     pub refused-answer : Refused f ≡ builtOf s (length buf)
     unfolding builtOf
-    refused-answer = rw (is-refused, number-is)
+    refused-answer = rw (← room-refused)
 
     pub refused-buffer : buf ≡ bufferOf s buf
     unfolding bufferOf
@@ -58,13 +56,13 @@ module _ (s : List ℕ) (buf : List ℕ) where
     unfolding measureOf
     size-is = let g = rw is-accepted at e in cc
 
-    pub room-size : room.Bytes n ≡ roomOf s
+    pub room-size : Written n ≡ roomOf s
     unfolding roomOf
     room-size = rw (is-accepted, size-is)
 
     pub short-answer : length buf < n → Refused 20 ≡ builtOf s (length buf)
     unfolding builtOf
-    short-answer h = rw (is-accepted, size-is, lt-ltb (length buf) n h)
+    short-answer h = rw (← room-size, lt-ltb (length buf) n h)
 
     pub short-buffer : length buf < n → buf ≡ bufferOf s buf
     unfolding bufferOf
@@ -72,7 +70,7 @@ module _ (s : List ℕ) (buf : List ℕ) where
 
     pub written-answer : n ≤ length buf → Written n ≡ builtOf s (length buf)
     unfolding builtOf
-    written-answer h = rw (is-accepted, size-is, le-ltb (length buf) n h)
+    written-answer h = rw (← room-size, le-ltb (length buf) n h)
 
     header-is : replyHeader (n % 65536) ≡ replyHeader n
     unfolding replyHeader be

@@ -24,9 +24,7 @@ use Rattle.emission.specs.Length.{measureOf}
 use Rattle.emission.proofs.BySets.{by-sets, no-verdict}
 use Rattle.result.specs.declared.Built.{Built}
 use Rattle.result.specs.declared.Built.the-variants.{Written, Refused}
-use Rattle.result.specs.declared.Room.the-variants as room
-use Rattle.result.specs.Room.{roomAt}
-use Rattle.result.specs.Built.{fitted, leaves, repliesOf, builtInPackets, bufferInPackets}
+use Rattle.result.specs.Built.{repliesOf, roomAt, fitted, leaves, builtInPackets, bufferInPackets}
 use Rattle.result.proofs.Builds.{is-refused, number-is, is-accepted, size-is}
 
 -- a payload of n bytes whose packets have total bytes
@@ -34,7 +32,7 @@ module _ (size : ℕ) (p buf : List ℕ) (some : 9 ≤ size) (total n : ℕ) (t 
   long : length (packetsOf size p) ≡ total
   long = length-packets size p some ∙ rw (t, e)
 
-  pub short : length buf < total → (Refused 20 ≡ fitted (packetsOf size p) (length buf)) × (buf ≡ leaves (fitted (packetsOf size p) (length buf)) (packetsOf size p) buf)
+  pub short : length buf < total → (Refused 20 ≡ fitted (Written (length (packetsOf size p))) (length buf)) × (buf ≡ leaves (fitted (Written (length (packetsOf size p))) (length buf)) (packetsOf size p) buf)
   short h = let f = lt-ltb (length buf) total h in (rw (long, f), rw (long, f))
 
   pub above : n ≤ total
@@ -46,7 +44,7 @@ module _ (size : ℕ) (p buf : List ℕ) (some : 9 ≤ size) (total n : ℕ) (t 
   at-is = rw (← e) (omega arith)
 
   pub cut : {k m : List ℕ} {to r : ℕ} → total ≤ length buf → Wrote buf (total - n) p k to → r ≡ cutLength size n (length k) → m ≡ cutBuffer size n k
-      → (Written r ≡ fitted (packetsOf size p) (length buf)) × (m ≡ leaves (fitted (packetsOf size p) (length buf)) (packetsOf size p) buf)
+      → (Written r ≡ fitted (Written (length (packetsOf size p))) (length buf)) × (m ≡ leaves (fitted (Written (length (packetsOf size p))) (length buf)) (packetsOf size p) buf)
   cut {k} {m} {r = r} h w a b =
       let f = le-ltb (length buf) total h in
       let there : k ≡ overwrite buf (packetCount size (length p) * 8) p = w .0 ∙ ap (λ (i : ℕ). overwrite buf i p) at-is in
@@ -69,25 +67,25 @@ not-long s e =
     (λ t. absurd (eqb-false (verdictOf s) 0 t (rw t at e)))
 
 module _ (size : ℕ) (s buf : List ℕ) where
-  pub wrong-size : isPacketSize size ≡ false → (Refused 32 ≡ builtInPackets size s (length buf)) × (buf ≡ bufferInPackets size s buf)
+  -- where there is no room, nothing is built
+  none-built : (f : ℕ) → Refused f ≡ roomAt size s → (Refused f ≡ builtInPackets size s (length buf)) × (buf ≡ bufferInPackets size s buf)
   unfolding builtInPackets bufferInPackets
-  wrong-size h = (rw h, rw h)
+  none-built f e = (rw (← e), rw (← e))
 
-  pub wrong-room : isPacketSize size ≡ false → room.Refused 32 ≡ roomAt size s
+  pub wrong-room : isPacketSize size ≡ false → Refused 32 ≡ roomAt size s
   unfolding roomAt
   wrong-room h = rw h
 
-  module _ (ok : isPacketSize size ≡ true) where
-    pub refused : (f : ℕ) → measureOf s ≡ measure.Refused f → (Refused f ≡ builtInPackets size s (length buf)) × (buf ≡ bufferInPackets size s buf)
-    unfolding builtInPackets bufferInPackets
-    refused f e =
-        let no = is-refused s buf f e in
-        let number = number-is s buf f e in
-        (rw (ok, no, number), rw (ok, no))
+  pub wrong-size : isPacketSize size ≡ false → (Refused 32 ≡ builtInPackets size s (length buf)) × (buf ≡ bufferInPackets size s buf)
+  wrong-size h = none-built 32 (wrong-room h)
 
-    pub refused-room : (f : ℕ) → measureOf s ≡ measure.Refused f → room.Refused f ≡ roomAt size s
+  module _ (ok : isPacketSize size ≡ true) where
+    pub refused-room : (f : ℕ) → measureOf s ≡ measure.Refused f → Refused f ≡ roomAt size s
     unfolding roomAt
     refused-room f e = rw (ok, is-refused s buf f e, number-is s buf f e)
+
+    pub refused : (f : ℕ) → measureOf s ≡ measure.Refused f → (Refused f ≡ builtInPackets size s (length buf)) × (buf ≡ bufferInPackets size s buf)
+    refused f e = none-built f (refused-room f e)
 
     module _ (n : ℕ) (e : measureOf s ≡ measure.Size n) where
       accepted : eqb (refusalOf s) 0 ≡ true
@@ -109,14 +107,14 @@ module _ (size : ℕ) (s buf : List ℕ) where
       pub payload-size : n - 8 ≡ length (bytesIn (walked s))
       payload-size = omega (arith, size-of)
 
-      pub sent : {b : Built} {m : List ℕ} → b ≡ fitted (packetsOf size (bytesIn (walked s))) (length buf)
-          → m ≡ leaves (fitted (packetsOf size (bytesIn (walked s))) (length buf)) (packetsOf size (bytesIn (walked s))) buf
+      pub sent : {b : Built} {m : List ℕ} → b ≡ fitted (Written (length (packetsOf size (bytesIn (walked s))))) (length buf)
+          → m ≡ leaves (fitted (Written (length (packetsOf size (bytesIn (walked s))))) (length buf)) (packetsOf size (bytesIn (walked s))) buf
           → (b ≡ builtInPackets size s (length buf)) × (m ≡ bufferInPackets size s buf)
-      unfolding builtInPackets bufferInPackets repliesOf
+      unfolding builtInPackets bufferInPackets roomAt repliesOf
       sent a b = (rw (ok, accepted) (rw same-bytes at a), rw (ok, accepted) (rw same-bytes at b))
 
       -- the packets have as many bytes as their length says
-      pub room-sum : {total : ℕ} → total ≡ packetsLength size (n - 8) → room.Bytes total ≡ roomAt size s
+      pub room-sum : {total : ℕ} → total ≡ packetsLength size (n - 8) → Written total ≡ roomAt size s
       unfolding roomAt repliesOf
       room-sum {total} t =
           let sum : length (packetsOf size (bytesIn (pieces s))) ≡ total = length-packets size (bytesIn (pieces s)) (omega (arith, size-bounds size ok)) ∙ rw (← same-bytes, ← payload-size) (sym t) in

@@ -1,3 +1,2 @@
 pub mod Built
-pub mod Room
 pub mod Inner

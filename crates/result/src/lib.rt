@@ -22,11 +22,10 @@ ghost use Rattle.token.specs.Tokens.{cell, long, tokenBytes, putChunks};
 ghost use Rattle.emission.specs.Emission.{infoToken, valueCell, bytesIn, columnPiece, columnPieces, cellPieces};
 ghost use Rattle.emission.specs.Walk.{beginPieces, piecesOf, rowsAfter, emitFrom, leadPieces, setsOf, walked};
 ghost use Rattle.emission.specs.Runs.{errorFound};
-ghost use Rattle.result.specs.Built.{fitted, leaves, builtOf, bufferOf, builtInPackets, bufferInPackets};
-ghost use Rattle.result.specs.Room.{roomOf, roomAt};
+ghost use Rattle.result.specs.Built.{roomOf, roomAt, fitted, leaves, builtOf, bufferOf, builtInPackets, bufferInPackets};
 ghost use Rattle.result.specs.Inner.{Put};
 
-// What a builder answers: the bytes written, or the refusal's number.
+// What a builder answers: the bytes written, or the refusal's number. Of the room for a reply, the bytes that would be written.
 pub enum Built {
     Written(usize),
     Refused(u8),
@@ -418,8 +417,8 @@ pub fn build_query_result_with_extras(script: &[u8], buf: &mut [u8]) -> Built
 // and is cut where it stands.
 fn put_in_packets(script: &[u8], size: u16, n: u16, buf: &mut [u8]) -> Built
     requires { ⌜ (9 ≤ size) × (n ≡ length (bytesIn (walked (now script)))) ⌝ }
-    ensures { λ r. ⌜ r ≡ fitted (packetsOf size (bytesIn (walked (now (script .entry))))) (length (now (buf .entry))) ⌝ }
-    ensures { λ _. ⌜ now (buf .exit) ≡ leaves (fitted (packetsOf size (bytesIn (walked (now (script .entry))))) (length (now (buf .entry)))) (packetsOf size (bytesIn (walked (now (script .entry))))) (now (buf .entry)) ⌝ }
+    ensures { λ r. ⌜ r ≡ fitted (Built.Written (length (packetsOf size (bytesIn (walked (now (script .entry))))))) (length (now (buf .entry))) ⌝ }
+    ensures { λ _. ⌜ now (buf .exit) ≡ leaves (fitted (Built.Written (length (packetsOf size (bytesIn (walked (now (script .entry))))))) (length (now (buf .entry)))) (packetsOf size (bytesIn (walked (now (script .entry))))) (now (buf .entry)) ⌝ }
 {
     let total = packet::packets_length(size, n);
     if buf.len() < total {
@@ -443,33 +442,27 @@ pub fn build_query_results_in_packets(script: &[u8], size: usize, buf: &mut [u8]
     }
 }
 
-// Room to lend for a script's reply, or a refusal.
-pub enum Room {
-    Bytes(usize),
-    Refused(u8),
-}
-
-// The room for a script's reply as one packet: exactly its length.
-pub fn room_estimate(script: &[u8]) -> Room
+// The room for a script's reply as one packet, exactly its length: what its builder answers where enough is lent.
+pub fn room_estimate(script: &[u8]) -> Built
     ensures { λ r. ⌜ r ≡ roomOf (now (script .entry)) ⌝ }
 {
     match emission::reply_length(script) {
-        Measure::Size(length) => Room::Bytes(length),
-        Measure::Refused(number) => Room::Refused(number),
+        Measure::Size(length) => Built::Written(length),
+        Measure::Refused(number) => Built::Refused(number),
     }
 }
 
-// The room for it in packets of a size: exactly the sum of all packets with their headers.
-pub fn room_in_packets(script: &[u8], size: usize) -> Room
+// The room for it in packets of a size, exactly the sum of all packets with their headers.
+pub fn room_in_packets(script: &[u8], size: usize) -> Built
     ensures { λ r. ⌜ r ≡ roomAt size (now (script .entry)) ⌝ }
 {
     if !packet::is_packet_size(size) {
-        return Room::Refused(PACKET_SIZE);
+        return Built::Refused(PACKET_SIZE);
     }
     match emission::reply_length(script) {
-        Measure::Refused(number) => Room::Refused(number),
+        Measure::Refused(number) => Built::Refused(number),
         Measure::Size(length) => {
-            Room::Bytes(packet::packets_length(size as u16, (length - 8) as u16))
+            Built::Written(packet::packets_length(size as u16, (length - 8) as u16))
         }
     }
 }

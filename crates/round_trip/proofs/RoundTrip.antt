@@ -28,7 +28,7 @@ use Rattle.emission.proofs.BySets.{by-sets}
 use Rattle.emission.proofs.Sizes.{size-told, size-cat, size-metadata}
 use Rattle.emission.proofs.Replies.{size-error}
 use Rattle.script.specs.Runs.{ahead}
-use Rattle.result.specs.Built.{fitted, builtOf, bufferOf, repliesOf, builtInPackets, bufferInPackets}
+use Rattle.result.specs.Built.{repliesOf, roomFor, roomOf, roomAt, fitted, builtOf, bufferOf, builtInPackets, bufferInPackets}
 use Rattle.payload.specs.Packets.{packetsIn}
 use Rattle.payload.proofs.CodeReads.{clash, and-true}
 use Rattle.payload.proofs.Joined.{Whole, joined-one}
@@ -42,12 +42,13 @@ use Rattle.round_trip.proofs.Bare.{payload-is}
 
 -- ---- what a builder wrote
 
--- the bytes for which there is room
-fitted-is : (bytes : List ℕ) (m n : ℕ) → fitted bytes m ≡ Written n → (length bytes ≡ n) × (length bytes ≤ m)
-fitted-is bytes m n e =
-    by-test (ltb m (length bytes))
+-- what is written is the room, and there are as many bytes
+fitted-is : (r : Built) (m n : ℕ) → fitted r m ≡ Written n → (r ≡ Written n) × (n ≤ m)
+fitted-is (Written k) m n e =
+    by-test (ltb m k)
     (λ g. let c : _≡_ (Refused 20) (Written n) = rw g at e in clash (cc))
-    (λ g. let c : _≡_ (Written (length bytes)) (Written n) = rw g at e in let z : length bytes ≡ n = cc in (z, ltb-false m (length bytes) g))
+    (λ g. let c : _≡_ (Written k) (Written n) = rw g at e in let z : k ≡ n = cc in (c, omega (arith, ltb-false m k g)))
+fitted-is (Refused f) m n e = clash (cc)
 
 -- a script that was not refused, in packets of a size that can be agreed
 pub record Written-as (how : Packing) (s : List ℕ) (m n : ℕ) : Type 0 where
@@ -56,11 +57,10 @@ pub record Written-as (how : Packing) (s : List ℕ) (m n : ℕ) : Type 0 where
   pub size : length (repliesBy how s) ≡ n
   pub room : length (repliesBy how s) ≤ m
 
-accepted-by : (s bytes : List ℕ) (m n : ℕ) → cond (eqb (refusalOf s) 0) (fitted bytes m) (Refused (refusalOf s)) ≡ Written n
-    → (refusalOf s ≡ 0) × (length bytes ≡ n) × (length bytes ≤ m)
-accepted-by s bytes m n e =
+accepted-by : (s bytes : List ℕ) (n : ℕ) → roomFor s bytes ≡ Written n → (refusalOf s ≡ 0) × (length bytes ≡ n)
+accepted-by s bytes n e =
     by-test (eqb (refusalOf s) 0)
-    (λ h. let c : fitted bytes m ≡ Written n = rw h at e in let w = fitted-is bytes m n c in (eqb-true (refusalOf s) 0 h, w .0, w .1))
+    (λ h. let c : _≡_ (Written (length bytes)) (Written n) = rw h at e in (eqb-true (refusalOf s) 0 h, cc))
     (λ h. let c : _≡_ (Refused (refusalOf s)) (Written n) = rw h at e in clash (cc))
 
 agreed-by : (agreed : Bool) (b : Built) (f : ℕ) {n : ℕ} → cond agreed b (Refused f) ≡ Written n → (agreed ≡ true) × (b ≡ Written n)
@@ -68,12 +68,16 @@ agreed-by true b f e = (refl, e)
 agreed-by false b f e = clash (cc)
 
 pub written : (how : Packing) (s : List ℕ) (m n : ℕ) → builtBy how s m ≡ Written n → Written-as how s m n
-unfolding builtOf builtInPackets
-written single s m n e = let w = accepted-by s (replyOf s) m n e in record { agreed = tt; accepted = w .0; size = w .1; room = w .2 }
+unfolding builtOf builtInPackets roomOf roomAt
+written single s m n e =
+    let f = fitted-is (roomOf s) m n e in
+    let w = accepted-by s (replyOf s) n (f .0) in
+    record { agreed = tt; accepted = w .0; size = w .1; room = omega (arith, w .1, f .1) }
 written (sized size) s m n e =
-    let a = agreed-by (isPacketSize size) _ 32 e in
-    let w = accepted-by s (repliesOf size s) m n (a .1) in
-    record { agreed = a .0; accepted = w .0; size = w .1; room = w .2 }
+    let f = fitted-is (roomAt size s) m n e in
+    let a = agreed-by (isPacketSize size) _ 32 (f .0) in
+    let w = accepted-by s (repliesOf size s) n (a .1) in
+    record { agreed = a .0; accepted = w .0; size = w .1; room = omega (arith, w .1, f .1) }
 
 -- what it leaves of the lent bytes begins with them
 left-first : (bytes b : List ℕ) (n : ℕ) → length bytes ≡ n → length bytes ≤ length b → take n (overwrite b 0 bytes) ≡ bytes

@@ -29,7 +29,7 @@ use Rattle.script.specs.Runs.{ahead}
 use Rattle.script.specs.Sets.{every, cellsIn, rowsIn, upToSet, setsIn}
 use Rattle.emission.specs.Emission.{columnOf, cellOf, setPieces, setsPieces, emittedBy, pieces, emitted, bytesIn, replyOf}
 use Rattle.emission.specs.Refusal.{faultIn, refusalOf}
-use Rattle.result.specs.Built.{builtOf}
+use Rattle.result.specs.Built.{roomOf, builtOf}
 use Rattle.fit.specs.Misfits.{cellFits, wrongCells, wrongInRow, columnFits, wrongColumns, typesIn}
 use Rattle.fit.specs.Misfits.{rowsMisfits, setMisfits, setsMisfits, misfits, fitOf}
 use Rattle.round_trip.specs.Octets.{Bytes}
@@ -134,7 +134,7 @@ scripts-sent : Sent single twoSets lent 67 × Sent single allKinds lent 341 × S
 unfolding flatMap be le leAt flat unitsOf units total surrogateOf surrogates paired anyHigh wellFormed hasPair charactersIn characters
     replyHeader packetOf parse records cellStage stageAfter columnShaped infoShaped numberWidth cellShaped chunkShaped errorShaped shaped textsOf allWellFormed
     faultOf verdictFrom verdictOf dataTypeOf dataTypes dataTypeIn lengthWidth collationSize columnValueOf columnValues columnValueIn nameFault nameCount messageLength ahead every cellsIn rowsIn upToSet
-    setsIn columnOf cellOf setPieces setsPieces emittedBy pieces bytesIn replyOf faultIn refusalOf builtOf cellFits wrongCells wrongInRow
+    setsIn columnOf cellOf setPieces setsPieces emittedBy pieces bytesIn replyOf faultIn refusalOf roomOf builtOf cellFits wrongCells wrongInRow
     columnFits wrongColumns typesIn rowsMisfits setMisfits setsMisfits misfits fitOf
 scripts-sent = (
   record { bytes = bytes-are twoSets (scripts-bytes .0); built = refl; fits = refl },

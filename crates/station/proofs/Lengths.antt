@@ -15,10 +15,7 @@ use Rattle.emission.specs.Emission.{pieces, bytesIn, replyOf}
 use Rattle.emission.specs.Refusal.{refusalOf}
 use Rattle.result.specs.declared.Built.{Built}
 use Rattle.result.specs.declared.Built.the-variants.{Written, Refused}
-use Rattle.result.specs.declared.Room.{Room}
-use Rattle.result.specs.declared.Room.the-variants.{Bytes, Refused as RoomRefused}
-use Rattle.result.specs.Built.{fitted, builtOf, repliesOf, builtInPackets}
-use Rattle.result.specs.Room.{roomFor, roomOf, roomAt}
+use Rattle.result.specs.Built.{repliesOf, roomFor, roomOf, roomAt, fitted, builtOf, builtInPackets}
 use Rattle.result.proofs.InPackets.{not-long}
 
 -- a builder writes no more than the bytes that are lent
@@ -26,54 +23,39 @@ abbrev Within : ℕ → Built → Type 0
 Within n (Written k) = k ≤ n
 Within n (Refused k) = n ≡ n
 
-fits-within : (bytes : List ℕ) (n : ℕ) → Within n (fitted bytes n)
-fits-within bytes n = by-test (ltb n (length bytes)) (λ l. rw l refl) (λ l. rw l (ltb-false n (length bytes) l))
-
-within : (s : List ℕ) (n : ℕ) → Within n (builtOf s n)
-unfolding builtOf
-within s n = by-test (eqb (refusalOf s) 0) (λ t. rw t (fits-within (replyOf s) n)) (λ t. rw t refl)
-
-within-packets : (size : ℕ) (s : List ℕ) (n : ℕ) → Within n (builtInPackets size s n)
-unfolding builtInPackets
-within-packets size s n =
-    by-test (isPacketSize size)
-    (λ o. by-test (eqb (refusalOf s) 0) (λ t. rw (o, t) (fits-within (repliesOf size s) n)) (λ t. rw (o, t) refl))
-    (λ o. rw o refl)
+within : (r : Built) (n : ℕ) → Within n (fitted r n)
+within (Written k) n = by-test (ltb n k) (λ l. rw l refl) (λ l. rw l (ltb-false n k l))
+within (Refused f) n = refl
 
 -- so its answer is small
 short : (n k : ℕ) {b : Built} → n < 2 ^ 63 → Within n b → b ≡ Written k → k < 2 ^ 63
 short n k h w e = let l : k ≤ n = rw e at w in omega arith
 
 pub fits : {b : Built} (s : List ℕ) (n : ℕ) → n < 2 ^ 63 → b ≡ builtOf s n → (k : ℕ) → b ≡ Written k → k < 2 ^ 63
-fits s n h e k q = short n k h (within s n) (sym e ∙ q)
+unfolding builtOf
+fits s n h e k q = short n k h (within (roomOf s) n) (sym e ∙ q)
 
 pub fits-in-packets : {b : Built} (size : ℕ) (s : List ℕ) (n : ℕ) → n < 2 ^ 63 → b ≡ builtInPackets size s n → (k : ℕ) → b ≡ Written k → k < 2 ^ 63
-fits-in-packets size s n h e k q = short n k h (within-packets size s n) (sym e ∙ q)
+unfolding builtInPackets
+fits-in-packets size s n h e k q = short n k h (within (roomAt size s) n) (sym e ∙ q)
 
 -- so is room
-abbrev Small : Room → Type 0
-Small (Bytes n) = n < 2 ^ 63
-Small (RoomRefused n) = n ≡ n
+within-for : (s bytes : List ℕ) (n : ℕ) → (refusalOf s ≡ 0 → length bytes ≤ n) → Within n (roomFor s bytes)
+within-for s bytes n h = by-test (eqb (refusalOf s) 0) (λ t. rw t (h (eqb-true (refusalOf s) 0 t))) (λ t. rw t refl)
 
-small-for : (s bytes : List ℕ) → (refusalOf s ≡ 0 → length bytes < 2 ^ 63) → Small (roomFor s bytes)
-small-for s bytes h = by-test (eqb (refusalOf s) 0) (λ t. rw t (h (eqb-true (refusalOf s) 0 t))) (λ t. rw t refl)
-
-small-room : (s : List ℕ) → Small (roomOf s)
+pub room-fits : {r : Built} (s : List ℕ) → r ≡ roomOf s → (k : ℕ) → r ≡ Written k → k < 2 ^ 63
 unfolding roomOf
-small-room s = small-for s (replyOf s) (λ e. omega (arith, not-long s e))
+room-fits s e k q = short 65535 k (omega arith) (within-for s (replyOf s) 65535 (not-long s)) (sym e ∙ q)
 
-small-in-packets : (size : ℕ) (s : List ℕ) → Small (roomAt size s)
+within-at : (size : ℕ) (s : List ℕ) → Within 1000000 (roomAt size s)
 unfolding roomAt repliesOf replyOf
-small-in-packets size s =
+within-at size s =
     let p = bytesIn (pieces s) in
     by-test (isPacketSize size)
     (λ o. let b = size-bounds size o in
-    rw o (small-for s (packetsOf size p)
+    rw o (within-for s (packetsOf size p) 1000000
     (λ e. omega (arith, not-long s e, length-packet p, length-packets size p (omega arith), length-bound size (length p)))))
     (λ o. rw o refl)
 
-pub room-fits : {r : Room} (s : List ℕ) → r ≡ roomOf s → (n : ℕ) → r ≡ Bytes n → n < 2 ^ 63
-room-fits s e n q = rw (sym e ∙ q) at (small-room s)
-
-pub room-in-packets-fits : {r : Room} (size : ℕ) (s : List ℕ) → r ≡ roomAt size s → (n : ℕ) → r ≡ Bytes n → n < 2 ^ 63
-room-in-packets-fits size s e n q = rw (sym e ∙ q) at (small-in-packets size s)
+pub room-in-packets-fits : {r : Built} (size : ℕ) (s : List ℕ) → r ≡ roomAt size s → (k : ℕ) → r ≡ Written k → k < 2 ^ 63
+room-in-packets-fits size s e k q = short 1000000 k (omega arith) (within-at size s) (sym e ∙ q)

@@ -4,12 +4,9 @@ use mathlib.Core.Path.{_≡_}
 use mathlib.Core.List.{List, [], _∷_}
 use lib.IntN.{ℤ, pos, negsuc, negℤ}
 use Rattle.refusals.specs.Numbers.{bufferTooShort}
-use Rattle.result.specs.Built.{builtOf, builtInPackets}
-use Rattle.result.specs.Room.{roomOf, roomAt}
+use Rattle.result.specs.Built.{roomOf, roomAt, builtOf, builtInPackets}
 use Rattle.result.specs.declared.Built.{Built}
 use Rattle.result.specs.declared.Built.the-variants.{Written, Refused as BuiltRefused}
-use Rattle.result.specs.declared.Room.{Room}
-use Rattle.result.specs.declared.Room.the-variants.{Bytes, Refused as RoomRefused}
 use Rattle.fit.specs.Misfits.{fitOf}
 use Rattle.fit.specs.declared.Misfit.{Misfit}
 use Rattle.fit.specs.declared.Misfit.the-variants.{Classification, Column, Cell}
@@ -17,7 +14,7 @@ use Rattle.fit.specs.declared.Fit.{Fit}
 use Rattle.fit.specs.declared.Fit.the-variants.{Yes, No, Refused as FitRefused}
 use Rattle.station.specs.Answer.{Outcome, answers, refuses, numberOf}
 
--- the bytes written
+-- the bytes written, or those of a room
 abbrev pub builtOutcome : Built → Outcome
 builtOutcome (Written n) = answers n []
 builtOutcome (BuiltRefused n) = refuses n
@@ -30,18 +27,13 @@ builtCall s room = builtOutcome (builtOf s room)
 unfoldable pub inPacketsCall : (size : ℕ) → List ℕ → (room : ℕ) → Outcome
 inPacketsCall size s room = builtOutcome (builtInPackets size s room)
 
--- the room in bytes
-abbrev pub roomOutcome : Room → Outcome
-roomOutcome (Bytes n) = answers n []
-roomOutcome (RoomRefused n) = refuses n
-
--- for a reply as one packet
+-- the room for a reply
 unfoldable pub roomCall : List ℕ → Outcome
-roomCall s = roomOutcome (roomOf s)
+roomCall s = builtOutcome (roomOf s)
 
--- and in packets of a size
+-- and for one in packets of a size
 unfoldable pub roomInPacketsCall : (size : ℕ) → List ℕ → Outcome
-roomInPacketsCall size s = roomOutcome (roomAt size s)
+roomInPacketsCall size s = builtOutcome (roomAt size s)
 
 -- A room that an export answers is just enough where it is n bytes: with as many or more the builder, which answers `answer m` where m
 -- bytes are lent, writes n bytes, and with one byte less or fewer it answers -20. Where it is -N, that is the builder's answer too,

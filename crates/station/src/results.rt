@@ -4,15 +4,14 @@ ghost use Prim.Native.Nat.{ℕ, _<_, _^_};
 ghost use lib.ListN.{length};
 ghost use Rattle.result.specs.Built.{bufferOf, bufferInPackets};
 ghost use Rattle.station.specs.Answer.{numberOf, answerOf, slotsOf};
-ghost use Rattle.station.specs.Results.{builtOutcome, builtCall, inPacketsCall, roomOutcome, roomCall, roomInPacketsCall, misfitOutcome, fitCall};
+ghost use Rattle.station.specs.Results.{builtOutcome, builtCall, inPacketsCall, roomCall, roomInPacketsCall, misfitOutcome, fitCall};
 use crate::slots::answered;
 use crate::slots::refused;
 use fit::Fit;
 use fit::Misfit;
 use result::Built;
-use result::Room;
 
-// The bytes that a builder wrote, or its refusal.
+// The bytes that a builder wrote, or that there must be room for; or the refusal.
 fn bytes_written(built: Built) -> i64
     requires { ⌜ ((n : ℕ) → built ≡ Built.Written n → n < 2 ^ 63) ⌝ }
     ensures { λ r. ⌜ r ≡ numberOf (builtOutcome built) ⌝ }
@@ -73,23 +72,12 @@ pub extern "C" fn station_build_query_results_in_packets(
     bytes_written(result::build_query_results_in_packets(script, size, buf))
 }
 
-// The bytes of a room, or its refusal.
-fn room_told(room: Room) -> i64
-    requires { ⌜ ((n : ℕ) → room ≡ Room.Bytes n → n < 2 ^ 63) ⌝ }
-    ensures { λ r. ⌜ r ≡ numberOf (roomOutcome room) ⌝ }
-{
-    match room {
-        Room::Bytes(n) => n as i64,
-        Room::Refused(number) => refused(number),
-    }
-}
-
 // Room to lend for a script's reply: exactly its length.
 #[no_mangle]
 pub extern "C" fn station_room(script: &[u8]) -> i64
     ensures { λ r. ⌜ r ≡ numberOf (roomCall (now (script .entry))) ⌝ }
 {
-    room_told(result::room_estimate(script))
+    bytes_written(result::room_estimate(script))
 }
 
 // Room to lend for it in packets of a size: exactly their sum, headers included.
@@ -97,7 +85,7 @@ pub extern "C" fn station_room(script: &[u8]) -> i64
 pub extern "C" fn station_room_in_packets(script: &[u8], size: usize) -> i64
     ensures { λ r. ⌜ r ≡ numberOf (roomInPacketsCall size (now (script .entry))) ⌝ }
 {
-    room_told(result::room_in_packets(script, size))
+    bytes_written(result::room_in_packets(script, size))
 }
 
 // 1: kind (1 classification, 2 column, 3 cell), set, row and column of a misfit, 0 where there is none. 0: the script
