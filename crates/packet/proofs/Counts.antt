@@ -113,7 +113,7 @@ length-packets size p h =
     (λ l. length-cut (size - 8) (omega arith) (length p) 1 p l (omega arith))
     (λ l. let z : length p ≡ 0 = omega arith in rw (z, count-none (size - 8) (omega arith)))
 
--- no more than eight bytes for each byte and for each of a packet's
+-- a rough bound: nine bytes for each byte of the payload, and eight for each of a packet
 pub length-bound : (size n : ℕ) → packetsLength size n ≤ n + (n + size) * 8
 unfolding packetsLength packetCount
 length-bound size n = omega (arith, count-bound (size - 8) n)

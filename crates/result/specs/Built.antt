@@ -67,7 +67,7 @@ abbrev pub ownRefusal : ℕ → Bool
 ownRefusal f = (leb 11 f && leb f 17) || eqb f packetSize
 
 -- A room is just enough for a builder that answers `answer m` where m bytes are lent: with as many bytes or more it writes them, and
--- with one byte less or fewer it answers 20. A refusal is none of 0 and 20, and the builder's too, whatever is lent.
+-- with one byte less or fewer it answers 20. A refusal is neither 0 nor 20, and it is the builder's too, whatever is lent.
 abbrev pub Enough : Built → (ℕ → Built) → Type 0
 Enough (Written n) answer = ((m : ℕ) → n ≤ m → answer m ≡ Written n) × ((m : ℕ) → m + 1 ≤ n → answer m ≡ Refused bufferTooShort)
 Enough (Refused f) answer = (ownRefusal f ≡ true) × ((m : ℕ) → answer m ≡ Refused f)
