@@ -1,5 +1,5 @@
 """What docs/EMBEDDING.md says of memory: its table of buffers to lend, and the rows of its plan for 256 KB that follow from
-scripts. What the page says is lent, and one less, which must be -20."""
+scripts. What the page says is lent, and one less, which must be -20; no row of the table is left out."""
 import re
 import struct
 
@@ -7,14 +7,16 @@ from compiled import ROOT
 
 TEXT = "6100E900AC20"
 LONG = 3 * len(TEXT) // 2  # the bytes of three such texts
-BARE, MISFIT = "000000000100", "0000000001000000000004000500000005000307000000"
+MISFIT = "0000000001000000000004000500000005000307000000"
 LOGIN = "00" * 94
+STEP = "step i:0401001800000100810000FD1000C1000000000000000000"
 # An export's row by its first name; a call of the export; the kind of its lent slice; what the page says of it; the bytes
 # that the texts and lists of the call come to.
 LENT = (
     ("parse_header", "parse_header i:0401000800000100", "o", "6", 0),
     ("write_header", "write_header n:4 n:1 n:8 n:0 n:1 n:0", "b", "8", 0),
     ("fresh", "fresh", "p", "134", 0),
+    ("step", f"{STEP} p:8,0*4,1,0*128", "o", "11", 0),
     ("payload", "payload i:040000090000010061040100090000020062", "b", "without 8 for each", 2),
     ("text", f"text i:{TEXT}", "o", "4", 0),
     ("text", f"fit i:{MISFIT}", "o", "4", 0),
@@ -56,6 +58,8 @@ LENT = (
     ("build_routing_login_response", f"build_routing_login_response i:{TEXT * 3} n:1 i:000000001100 n:0 n:256 n:0", "b",
      "each route as the token above", 21 + 13 + LONG),
 )
+# The rows whose numbers depend on a script or a payload (`compare_rooms`), and the one of calls that are lent nothing.
+WORKED_OUT, NOTHING = {"build_query_results", "build_query_results_in_packets", "cut_payload"}, {"room"}
 # Packets of the plan, and the sizes at which the room for packets is lent.
 AGREED = 4_096
 SIZES = (512, 513, AGREED, 32_766, 32_767)
@@ -73,19 +77,26 @@ def rows(heading):
 
 
 def compare_lent(tally, asked):
-    """Each row of the table with a number, or with a sum that the call shows."""
+    """Each row of the table with a number, or with a sum that the call shows; a builder fills all that it is lent."""
     table = {re.search(r"`station_(\w+)`", names)[1]: cells[0] for names, cells in rows("Buffers to lend").items()}
-    calls, lengths = [], []
+    known = {row for row, *_ in LENT} | WORKED_OUT | NOTHING
+    tally.equal("EMBEDDING: the rows of the table", sorted(known), sorted(table))
+    calls = []
     for row, call, kind, figure, more in LENT:
         shown = re.search(rf"(?<![0-9]){figure}(?![0-9])", table.get(row, ""))
         tally.check(shown, f"EMBEDDING: {figure} is not what is lent to {row}: {table.get(row)}")
         length = more + (int(figure) if figure.isdigit() else 0)
         calls += [f"{call} {kind}:{length}", f"{call} {kind}:{length - 1}"]
-        lengths.append(length)
     said = asked(calls)
-    for call, length, enough, short in zip(calls[::2], lengths, said[::2], said[1::2]):
-        tally.check(not enough.startswith("-"), f"EMBEDDING: {call} is refused: {enough}")
+    for call, enough, short in zip(calls[::2], said[::2], said[1::2]):
+        kind, length = call.rsplit(" ", 1)[-1].split(":")
+        number = enough.split(" ")[0]
+        holds = number == length if kind == "b" else number.isdigit()
+        tally.check(holds, f"EMBEDDING: {call} answers {enough}")
         tally.equal(f"EMBEDDING: one less than {call}", "-20", short)
+    position = asked([f"{STEP} p:8,0*4,1,0*{count} o:11" for count in (128, 127)])
+    shown = re.search(r"`position`: 134;", table["step"])
+    tally.check(shown and position[0].startswith("1 ") and position[1] == "-20", f"EMBEDDING: a step's position: {position}")
 
 
 def lent(script):
@@ -98,18 +109,21 @@ def record(kind, payload=b""):
 
 
 def compare_rooms(tally, asked):
-    """Room at the borders: the payload and 8 for each packet; with it the builders write, with one byte less they do not."""
-    cases = [("room", "build_query_results", "", payload, 8 + payload) for payload in PAYLOADS]
-    cases += [("room_in_packets", "build_query_results_in_packets", f" n:{size}", payload, payload + 8 * -(-payload // (size - 8)))
-              for payload in PAYLOADS for size in SIZES]
-    calls = []
-    for room, build, size, payload, length in cases:
-        given = f"{lent(record(1, bytes(payload - 16)))}{size}"
-        calls += [f"{room} {given}", f"{build} {given} b:{length}", f"{build} {given} b:{length - 1}"]
-    said = asked(calls)
-    for case, room, enough, short in zip(cases, said[::3], said[1::3], said[2::3]):
-        length = str(case[4])
-        tally.equal(f"room of {case}", (length, length, "-20"), (room, enough.split(" ")[0], short))
+    """Room at the borders: the payload and 8 for each packet. With it the builders write, with one byte less they do not."""
+    cases = []
+    for payload in PAYLOADS:
+        script = lent(record(1, bytes(payload - 16)))
+        cases.append((f"room {script}", f"build_query_results {script}", 8 + payload))
+        for size in SIZES:
+            length = payload + 8 * -(-payload // (size - 8))
+            room = f"room_in_packets {script} n:{size}"
+            cases.append((room, f"build_query_results_in_packets {script} n:{size}", length))
+            cases.append((room, f"cut_payload {lent(bytes(payload))} n:{size}", length))
+    calls = ((room, f"{build} b:{length}", f"{build} b:{length - 1}") for room, build, length in cases)
+    said = asked([call for three in calls for call in three])
+    for (room, build, length), *told in zip(cases, said[::3], said[1::3], said[2::3]):
+        told[1] = told[1].split(" ")[0]
+        tally.equal(f"{room} and {build}", [str(length), str(length), "-20"], told)
 
 
 def columns(kind, count):

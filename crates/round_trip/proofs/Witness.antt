@@ -1,9 +1,9 @@
 -- What the statements ask for can be met, of three scripts with what is read of their packets: `twoSets`, which has rows in both its
 -- sets; `allKinds`, which has every kind of record but 8, every type of column and every value; and `terminal`, which has kind 8.
--- Each is checked by computing. Assumes nothing.
+-- The room for replies, of some scripts. Each is checked by computing. Assumes nothing.
 use mathlib.Core.Path.{_≡_, refl, _∙_}
 use mathlib.Core.Bool.{Bool, true, and-eq-true-iff, _&&_}
-use mathlib.Core.List.{List, [], _∷_, map, flatMap}
+use mathlib.Core.List.{List, [], _∷_, _++_, map, flatMap}
 use Prim.Native.Nat.{ℕ}
 use lib.Dec.{ltb}
 use lib.IntN.{pos, negsuc}
@@ -15,7 +15,9 @@ use Rattle.wire.specs.Fields.{flat}
 use Rattle.text.specs.Units.{unitsOf, units, total}
 use Rattle.text.specs.Surrogates.{surrogateOf, surrogates, paired, anyHigh, wellFormed, hasPair, charactersIn, characters}
 use Rattle.packet.specs.Status.{hasBit}
+use Rattle.packet.specs.Header.{headerBytes}
 use Rattle.packet.specs.Reply.{replyHeader, packetOf}
+use Rattle.packet.specs.Cut.{partBytes, cutFrom, packetsOf}
 use Rattle.script.specs.Records.{parse, records}
 use Rattle.script.specs.Order.{cellStage, stageAfter}
 use Rattle.script.specs.Shape.{columnShaped, infoShaped, numberWidth, cellShaped, chunkShaped, errorShaped, shaped, textsOf}
@@ -29,7 +31,8 @@ use Rattle.script.specs.Runs.{ahead}
 use Rattle.script.specs.Sets.{every, cellsIn, rowsIn, upToSet, setsIn}
 use Rattle.emission.specs.Emission.{columnOf, cellOf, setPieces, setsPieces, emittedBy, pieces, emitted, bytesIn, replyOf}
 use Rattle.emission.specs.Refusal.{faultIn, refusalOf}
-use Rattle.result.specs.Built.{roomOf, builtOf}
+use Rattle.result.specs.declared.Built.the-variants.{Written, Refused}
+use Rattle.result.specs.Built.{repliesOf, roomOf, roomAt, builtOf}
 use Rattle.fit.specs.Misfits.{cellFits, wrongCells, wrongInRow, columnFits, wrongColumns, typesIn}
 use Rattle.fit.specs.Misfits.{rowsMisfits, setMisfits, setsMisfits, misfits, fitOf}
 use Rattle.round_trip.specs.Octets.{Bytes}
@@ -150,6 +153,22 @@ all-kinds-sent = scripts-sent .1
 
 pub terminal-sent : Sent single terminal lent 42
 terminal-sent = scripts-sent .2
+
+-- ---- the room for replies: as one packet, in packets of 512, at a size that cannot be agreed, and of no script
+
+-- a set whose classification has 489 bytes: its payload is one byte more than a packet of 512 holds
+abbrev longSet : List ℕ
+longSet = be 6 0xE9010000_0100 ++ replicate 489 0
+
+scripts-room :
+    (roomOf twoSets ≡ Written 67) × (roomAt 512 twoSets ≡ Written 67) × (roomAt 511 twoSets ≡ Refused 32)
+    × (roomOf longSet ≡ Written 513) × (roomAt 512 longSet ≡ Written 521) × (roomAt 513 longSet ≡ Written 513)
+    × (roomOf [] ≡ Refused 12) × (roomAt 512 [] ≡ Refused 12) × (roomAt 511 [] ≡ Refused 32)
+unfolding flatMap be le leAt flat unitsOf units total surrogateOf surrogates paired anyHigh wellFormed hasPair charactersIn characters
+    replyHeader packetOf headerBytes partBytes cutFrom packetsOf parse records cellStage stageAfter columnShaped numberWidth cellShaped shaped textsOf allWellFormed
+    faultOf verdictFrom verdictOf dataTypeOf dataTypes dataTypeIn lengthWidth collationSize columnValueOf columnValues columnValueIn nameFault nameCount ahead every cellsIn rowsIn upToSet
+    setsIn columnOf cellOf setPieces setsPieces emittedBy pieces bytesIn replyOf faultIn refusalOf repliesOf roomOf roomAt
+scripts-room = (refl, refl, refl, refl, refl, refl, refl, refl, refl)
 
 -- ---- what is read of `twoSets`: the values of its sets
 
