@@ -59,6 +59,7 @@ static struct export exports[] = {
     EXPORT(station_parse_transaction_descriptor_header, "io"),
     EXPORT(station_parse_fedauth_token, "io"),
     EXPORT(station_parse_rpc_request, "ino"),
+    EXPORT(station_capture_marks, "io"),
     EXPORT(station_parse_login7, "ido"),
     EXPORT(station_database, "ito"),
     EXPORT(station_build_query_results, "ib"),

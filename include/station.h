@@ -29,8 +29,8 @@ extern "C" {
 #endif
 
 /* The version of these calls (CHANGELOG.md). An answer that changes changes the version. */
-#define STATION_VERSION_MAJOR 3
-#define STATION_VERSION_MINOR 1
+#define STATION_VERSION_MAJOR 4
+#define STATION_VERSION_MINOR 0
 
 /* The most bytes of a reply, and of a reply in packets: a `buf` of so many is never too short. */
 #define STATION_MOST_REPLY 65535
@@ -52,6 +52,7 @@ extern "C" {
 #define STATION_CALL_CUT 29            /* the headers, the procedure or the flags of a procedure call are cut */
 #define STATION_PARAMETER_CUT 30       /* a parameter is cut, its value's length wrong, or sp_executesql has none */
 #define STATION_PARAMETER_NOT_READ 31  /* a parameter's type is not read, it is encrypted, or a second call follows */
+#define STATION_HEADERS_TOO_SMALL 35   /* the headers length of a request is 0 to 3: it cannot hold its own four bytes */
 
 /* caused by the author of a script or of a list of records */
 #define STATION_RECORD_CUT 11      /* a record is cut */
@@ -144,7 +145,7 @@ int64_t station_text(const uint8_t *text, size_t text_len, uint64_t *out, size_t
 
 /* The SQL text of a batch, without white space at its ends, as a part of the body.
  * 0: the part's slots.
- * -1 empty, -2 under 4 bytes, -3 headers past the end, -4 a text that is not UTF-16.
+ * -1 empty, -2 under 4 bytes, -35 a headers length of 0 to 3, -3 headers past the end, -4 a text that is not UTF-16.
  */
 int64_t station_parse_sql_batch(const uint8_t *body, size_t body_len, uint64_t *out, size_t out_len);
 
@@ -157,7 +158,7 @@ int64_t station_parse_sql_batch(const uint8_t *body, size_t body_len, uint64_t *
 
 /* The type of a transaction manager request.
  * 0 or more: the type.
- * -10 a request without one.
+ * -35 a headers length of 0 to 3, -10 a request without a type.
  */
 int64_t station_parse_transaction_manager_request(const uint8_t *body, size_t body_len);
 
@@ -167,7 +168,7 @@ int64_t station_parse_transaction_manager_request(const uint8_t *body, size_t bo
 #define STATION_DESCRIPTOR_COUNT 1       /* the count of outstanding requests */
 
 /* The transaction descriptor header of a request.
- * 1: the header's slots. 0: there is none, and `out` may be empty.
+ * 1: the header's slots. 0: there is none, and `out` may be empty; so it is where the headers length cannot be.
  */
 int64_t station_parse_transaction_descriptor_header(const uint8_t *body, size_t body_len, uint64_t *out,
                                                     size_t out_len);
@@ -211,11 +212,24 @@ int64_t station_parse_fedauth_token(const uint8_t *payload, size_t payload_len, 
  * ask for 0, 1, .. until FOUND is 0. Of sp_executesql the statement is the value's bytes of parameter 0, as they stand:
  * of a Max value its chunks, from the first length through the zero one; of null no bytes.
  * 0: the call's slots.
- * -29 headers, procedure or flags cut, -30 a parameter cut, a wrong length in its value, or sp_executesql without a
- * parameter, -31 a type that is not read, an encrypted parameter, or a second call.
+ * -35 a headers length of 0 to 3, -29 headers, procedure or flags cut, -30 a parameter cut, a wrong length in its
+ * value, or sp_executesql without a parameter, -31 a type that is not read, an encrypted parameter, or a second call.
  */
 int64_t station_parse_rpc_request(const uint8_t *body, size_t body_len, uint64_t number, uint64_t *out,
                                   size_t out_len);
+
+/* The kind of the records of a capture, and the fewest bytes of one that is marked, its head among them. */
+#define STATION_CAPTURE_KIND 0x0021
+#define STATION_CAPTURE_MARKED_BYTES 10
+
+/* Which records of a stored capture have a headers length that cannot be. A capture is a list of records, of each a
+ * 4-byte length, a 2-byte kind and the body of one request; a record is marked where its body has four bytes or more and
+ * the first four are a number of 0 to 3.
+ * 0 or more: how many are marked. The first so many slots are their numbers, rising; records are numbered from 0.
+ * -11 a record that is cut, -12 one of another kind: the first bad record's. -20 fewer slots than marks:
+ * capture_len / STATION_CAPTURE_MARKED_BYTES slots are enough.
+ */
+int64_t station_capture_marks(const uint8_t *capture, size_t capture_len, uint64_t *out, size_t out_len);
 
 /* The slots of a login; a part is one of the body. */
 #define STATION_LOGIN_SLOTS 13

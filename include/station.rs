@@ -8,8 +8,8 @@
 // Every edition takes this file from Rust 1.82 on. For an older compiler leave out the word `unsafe` before `extern`. A
 // call is unsafe, because nothing checks that a pointer is valid for the length that follows it.
 
-pub const STATION_VERSION_MAJOR: u32 = 3;
-pub const STATION_VERSION_MINOR: u32 = 1;
+pub const STATION_VERSION_MAJOR: u32 = 4;
+pub const STATION_VERSION_MINOR: u32 = 0;
 pub const STATION_MOST_REPLY: usize = 65535;
 pub const STATION_MOST_PACKETS: usize = 66575;
 
@@ -28,6 +28,7 @@ pub const STATION_NO_TRANSACTION_TYPE: i64 = 10;
 pub const STATION_CALL_CUT: i64 = 29;
 pub const STATION_PARAMETER_CUT: i64 = 30;
 pub const STATION_PARAMETER_NOT_READ: i64 = 31;
+pub const STATION_HEADERS_TOO_SMALL: i64 = 35;
 
 pub const STATION_RECORD_CUT: i64 = 11;
 pub const STATION_KIND_WRONG: i64 = 12;
@@ -121,6 +122,9 @@ pub const STATION_RPC_EXECUTESQL: u64 = 10;
 
 pub const STATION_PARAMETER_BY_REFERENCE: u64 = 0x01;
 pub const STATION_PARAMETER_DEFAULT: u64 = 0x02;
+
+pub const STATION_CAPTURE_KIND: u16 = 0x0021;
+pub const STATION_CAPTURE_MARKED_BYTES: usize = 10;
 
 pub const STATION_LOGIN_SLOTS: usize = 13;
 pub const STATION_LOGIN_FEDAUTH: usize = 0;
@@ -294,6 +298,12 @@ unsafe extern "C" {
         body: *const u8,
         body_len: usize,
         number: u64,
+        out: *mut u64,
+        out_len: usize,
+    ) -> i64;
+    pub fn station_capture_marks(
+        capture: *const u8,
+        capture_len: usize,
         out: *mut u64,
         out_len: usize,
     ) -> i64;

@@ -14,6 +14,7 @@ MOST, SHOWN, BEFORE = 20, 1_000, 40
 # What makes a program, by its place below the top folder; what brings one that is installed, by its name.
 MADE_BY = {
     "target/bin/answer": "rt check answer",
+    "target/bin/capture": "rt check capture",
     "target/bin/replay": "rt check replay",
     "target/bin/reply": "rt check reply",
     "target/staticlib/libstation.a": "rt staticlib station",

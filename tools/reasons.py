@@ -34,6 +34,7 @@ CAUSES = {
     33: "a packet's number is not the next",
     34: "a reply must go on past a packet's payload, and bytes follow the end bit, or none follow and there is no end "
         "bit",
+    35: "a request's headers length is 0 to 3, and so cannot hold its own four bytes",
 }
 MOST_NAME_UNITS, MOST_COLUMNS, MOST_TEXT_BYTES, MOST_INPUT = 255, 128, 8000, 65_536
 # A longer payload is cut here where it is shown.

@@ -113,17 +113,9 @@ def by_name():
     yield "many parameters", call(named("many"), *(number(1, i) for i in range(9)), flags=0x0F0F)
 
 
-def short_headers():
-    """Headers lengths of 0 to 3: the procedure stands at that place, within the length itself."""
-    yield "headers of no byte", [bytes(4), number(2, 7)]
-    yield "headers of one byte", [bytes([1, 0, 0, 0, 0x80]), text("a", 2), number(1, None)]
-    yield "headers of two bytes", [bytes([2, 0, 0, 0, 1, 2])]
-    yield "headers of three bytes", [bytes([3, 0, 0, 0, 0, 3, 4]), long_text(["a"])]
-
-
 def fixed():
-    """Thirty calls, each with a name and in its pieces."""
-    return [*by_number(), *by_name(), *short_headers()]
+    """Calls of every kind, each with a name and in its pieces."""
+    return [*by_number(), *by_name()]
 
 
 def random_text(source, most):

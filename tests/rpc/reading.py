@@ -1,11 +1,12 @@
 """A second reader of RPC requests, written from MS-TDS (2.2.6.6 RPC Request, 2.2.5.6 TYPE_INFO, TYPE_VARBYTE and PLP_BODY)
-and request 2026-01 of document 02, apart from the proved one. `Call(body).lines(number)` is what `answer rpc` must write.
+and requests 2026-01 and 2026-05 of document 02, apart from the proved one. `Call(body).lines(number)` is what `answer rpc` must write.
 
 A body is read once, whatever parameter is asked for. Each fault is noted as (byte at fault, number), and the reading goes on
 where it can: the least of what was noted is the answer, which is 'the earliest byte at fault, then this order'. A field that
 the body ends in is at fault at the body's end.
 """
-HEAD, PARAMETER, UNREAD = 29, 30, 31
+HEAD, PARAMETER, UNREAD, TOO_SMALL = 29, 30, 31, 35
+OWN_LENGTH = 4  # the bytes of the headers' length, which it counts
 ENCRYPTED = 0x08
 BY_NUMBER, EXECUTE_SQL = 0xFFFF, 10
 NEXT_CALLS = (0xFE, 0xFF)  # NoExecFlag and BatchFlag, where a parameter's name would begin
@@ -79,7 +80,9 @@ class Call:
 
     def read_head(self):
         """ALL_HEADERS, which its total length leaps over; NameLenProcID; OptionFlags."""
-        total = self.integer(4, HEAD)
+        total = self.integer(OWN_LENGTH, HEAD)
+        if total < OWN_LENGTH:
+            self.lost(0, TOO_SMALL)
         if total > len(self.body):
             self.lost(len(self.body), HEAD)
         self.at = total

@@ -21,6 +21,7 @@
     X(parse_transaction_descriptor_header, IN(0), OUT)                                        \
     X(parse_fedauth_token, IN(0), OUT)                                                        \
     X(parse_rpc_request, IN(0), N(0), OUT)                                                    \
+    X(capture_marks, IN(0), OUT)                                                              \
     X(parse_login7, IN(0), IDS, OUT)                                                          \
     X(database, IN(0), IN(1), OUT)                                                            \
     X(build_query_results, IN(0), BUF)                                                        \

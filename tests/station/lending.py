@@ -26,6 +26,7 @@ LENT = (
     ("parse_sql_batch",
      "parse_transaction_descriptor_header i:16000000120000000200010000000000000002000000", "o", "2", 0),
     ("parse_rpc_request", "parse_rpc_request i:04000000FFFF01000000 n:0", "o", "19", 0),
+    ("capture_marks", "capture_marks i:" + "04000000210000000000" * 2, "o", "a slot for each marked record", 2),
     ("parse_login7", f"parse_login7 i:{LOGIN} d:0", "o", "13", 0),
     ("build_prelogin_response", "build_prelogin_response", "b", "26", 0),
     ("build_prelogin_response", "build_prelogin_response_with_encryption n:1", "b", "26", 0),

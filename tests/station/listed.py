@@ -54,6 +54,8 @@ class Listed:
             yield from self.procedure(arguments, answer)
         elif name == "room_in_packets":
             yield f"{name} i:{expanded(arguments[1])} n:{arguments[0]}", answer.replace("refused ", "-")
+        elif name == "capture_marks":
+            yield from self.capture(arguments, answer)
         elif name == "database":
             yield from self.database(*map(expanded, arguments), expanded(answer))
         elif name in ("room", "parse_transaction_manager_request"):
@@ -104,6 +106,19 @@ class Listed:
             yield f"{call} o:{size}", refused or f"0 {slots(procedure_slots(answer.split()))}"
         for size in few:
             yield f"{call} o:{size}", refused or TOO_SHORT
+
+    def capture(self, arguments, answer):
+        """As many slots are lent as the line says; and where these are enough, as many as there are marks, more and fewer."""
+        lent, call, words = arguments[0], f"capture_marks i:{expanded(arguments[1])}", answer.split()
+        if words[0] == "refused":
+            yield f"{call} o:{lent}", f"-{words[1]}"
+            return
+        count, *marks = words
+        enough, few = sizes(int(count))
+        for size in {int(lent), *enough}:
+            yield f"{call} o:{size}", f"{count} {slots(marks)}" if marks else count
+        for size in few:
+            yield f"{call} o:{size}", TOO_SHORT
 
     def database(self, fallback, body, text):
         def right(said):

@@ -15,7 +15,7 @@ ARCHIVE = ROOT / "target/staticlib/libstation.a"
 PROTOTYPE = re.compile(r"^int64_t station_(\w+)\((.*?)\);", re.M | re.S)
 NUMBERS = {"uint8_t": ctypes.c_uint8, "uint16_t": ctypes.c_uint16, "uint32_t": ctypes.c_uint32,
            "uint64_t": ctypes.c_uint64, "bool": ctypes.c_bool}
-SLOTS, UNTOUCHED = 24, 0xA5A5A5A5A5A5A5A5
+SLOTS, UNTOUCHED = 64, 0xA5A5A5A5A5A5A5A5
 NO_PART = 2**64 - 1
 # The bytes of a packet header, and the bits of its status that the list has after its slots.
 HEADER = 8
@@ -70,7 +70,7 @@ class Ours:
     def called(self, name, export, words):
         """The number that a call answers, its inputs, and the memory that it was lent."""
         lent = HEADER if name == "write_header" else 0
-        if name.startswith("build_") or name == "parse_login7":
+        if name.startswith("build_") or name in ("parse_login7", "capture_marks"):
             lent = int(words.pop(0))
         if name in ("database", "parse_rpc_request"):
             words.reverse()
@@ -83,7 +83,8 @@ class Ours:
                 inputs.append(bytes_of(words.pop(0)))
                 arguments += [ctypes.c_char_p(inputs[-1]), ctypes.c_size_t(len(inputs[-1]))]
             elif parameter.startswith("*"):
-                memory = (slots, SLOTS) if kind == "uint64_t" else (room, lent)
+                count = lent if name == "capture_marks" else SLOTS
+                memory = (slots, count) if kind == "uint64_t" else (room, lent)
                 arguments += [memory[0], ctypes.c_size_t(memory[1])]
             else:
                 arguments.append(NUMBERS[kind](int(words.pop(0))))
@@ -102,6 +103,8 @@ class Ours:
             slots += [int(bool(slots[1] & bit)) for bit in (END_OF_MESSAGE, IGNORE)]
         if name == "parse_login7":
             slots += [number, *room.raw[:number]]
+        if name == "capture_marks":
+            slots.insert(0, number)
         if name == "fit":
             return MISFITS[slots[0]](slots) if number else "fits"
         if name == "parse_rpc_request":

@@ -1,6 +1,6 @@
 """Stored procedure calls for the list, with the answers of the second reader (tests/rpc/reading.py).
 
-Its thirty calls, each asked for parameter 0 and for another number; calls that clients sent; calls that are damaged.
+Its calls of every kind, each asked for parameter 0 and for another number; calls that clients sent; calls that are damaged.
 """
 import importlib.util
 import pathlib

@@ -17,13 +17,12 @@ OPTION_BITS = {0x0001: "recompile", 0x0002: "no metadata", 0x0004: "reuse the me
 NEXT_CALL = {0xFE: ("NoExecFlag", "another call follows, which is not run"), 0xFF: ("BatchFlag", "another call follows")}
 STATUS_BITS = {0x01: "by reference", 0x02: "default value", 0x08: "encrypted"}
 ENCRYPTED = 0x08
-OWN_LENGTH = 4  # the bytes of the headers' length
 
 
 def read_calls(f):
     """Calls, one after another; the call reader reads one."""
     f.rules = IN_CALL
-    read_place(f)
+    read_headers(f)
     procedure, count = read_call(f)
     if procedure == EXECUTE_SQL and count == 0:
         f.fault(IN_PARAMETERS.cut, "sp_executesql without a parameter", len(f.held))
@@ -34,18 +33,6 @@ def read_calls(f):
         f.fault(f.rules.type, "the call reader does not read a second call", label="note")
         if f.left():
             read_call(f)
-
-
-def read_place(f):
-    """The headers. Their length is the place of the procedure: one that has no room for itself puts it within itself."""
-    total = int.from_bytes(f.held[f.at:f.at + OWN_LENGTH], "little")
-    if f.left() < OWN_LENGTH or total >= OWN_LENGTH:
-        read_headers(f)
-        return
-    start = f.at
-    f.line("ALL_HEADERS", 0, f"ALL_HEADERS: {many(total, 'byte')} with this length")
-    f.bytes("TotalLength", total, f"{many(total, 'byte')} with this length")
-    f.fault(None, f"headers of {many(total, 'byte')}, which have no room for their length", start)
 
 
 def read_call(f):

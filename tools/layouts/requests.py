@@ -1,6 +1,7 @@
 """The bodies of requests, and what replies have in common with them: a prelogin, and features."""
 from .fields import (Unread, ascii_letters, hexed, letters, many, named, read_version, read_zone, show_bytes, show_text,
                      tds_version)
+from .refusals import HEADERS_TOO_SMALL
 
 FEATURES = {0x01: "SESSIONRECOVERY", 0x02: "FEDAUTH", 0x04: "COLUMNENCRYPTION", 0x05: "GLOBALTRANSACTIONS",
             0x08: "AZURESQLSUPPORT", 0x09: "DATACLASSIFICATION", 0x0A: "UTF8_SUPPORT", 0x0B: "AZURESQLDNSCACHING",
@@ -24,6 +25,7 @@ LOGIN_PLACES = ("HostName", "UserName", "Password", "AppName", "ServerName", "Ex
 LATER_PLACES = ("SSPI", "AtchDBFile", "ChangePassword")
 IN_BYTES, SECRET = ("Extension", "SSPI"), ("Password", "ChangePassword")
 EXTENSION_BIT = 0x10  # of OptionFlags3
+OWN_LENGTH = 4  # the bytes of the headers' length, which it counts
 
 
 def read_prelogin(f):
@@ -144,12 +146,14 @@ def read_features(f, token):
 def read_headers(f):
     """ALL_HEADERS, which stand before a batch, a call and a transaction request."""
     line, start = f.line("ALL_HEADERS", 0), f.at
-    total = f.number("TotalLength", 4, lambda total: f"{many(total, 'byte')} with this length")
+    total = f.number("TotalLength", OWN_LENGTH, lambda total: f"{many(total, 'byte')} with this length")
     line.comment = f"ALL_HEADERS: {many(total, 'byte')} with this length"
     end = start + total
-    if total < 4 or end > len(f.held):
-        words = f"headers of {many(total, 'byte')}, which are not within 4 and the body's length"
-        f.fault(f.rules.cut, words, len(f.held) if total >= 4 else None)
+    if total < OWN_LENGTH:
+        f.fault(HEADERS_TOO_SMALL, f"headers of {many(total, 'byte')}, which cannot hold their own length")
+        raise Unread
+    if end > len(f.held):
+        f.fault(f.rules.cut, f"headers of {many(total, 'byte')}, which go past the body's end", len(f.held))
         raise Unread
     while f.at < end:
         read_request_header(f, end)

@@ -102,7 +102,7 @@ table a b c d e f g h i j k l m n o p q =
     ∷ (transactionDone 6, bytes (be 13 0xFD0000C1000000000000000000))
     -- 6: batches
     ∷ (batch (be 11 0x04000000_2000_4100_2000_7F), part 6 (be 2 0x4100))
-    ∷ (batch (be 4 0x00000000), part 0 (be 4 0x0000_0000))
+    ∷ (batch (be 4 0x00000000), refused 35)
     ∷ (batch (be 4 0x05000000), refused 3)
     -- 7: transaction requests
     ∷ (transaction (be 6 0x04000000_0500), type 5)

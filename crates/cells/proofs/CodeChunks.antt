@@ -7,6 +7,7 @@ use native.Mathlib.Omega.{arith}
 use lib.Dec.{eqb, leb}
 use lib.ListN.{length, drop}
 use borrow.Author.Tests.{leb-true, eqb-true}
+use Rattle.wire.proofs.Cases.{clash}
 use Rattle.wire.specs.Le.{leAt}
 use Rattle.wire.specs.declared.Part.{Part}
 use Rattle.cells.specs.declared.ChunkRead.{ChunkRead}
@@ -22,7 +23,7 @@ use Rattle.payload.proofs.Sources.{Same, same-self, same-later, same-then}
 use Rattle.payload.proofs.Agree.{agree-is}
 use Rattle.payload.proofs.Reach.{frame-same}
 use Rattle.cells.proofs.Agree.{chunk-agree}
-use Rattle.payload.proofs.CodeReads.{clash, then-same, then-got, then-not, if-not}
+use Rattle.payload.proofs.CodeReads.{then-same, then-got, then-not, if-not}
 
 -- ---- what the answer for a chunk tells
 

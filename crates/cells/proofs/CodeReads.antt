@@ -1,8 +1,8 @@
 -- What the answers for a type and a cell tell. Assumes nothing.
 use mathlib.Core.Path.{_≡_}
 use Prim.Native.Nat.{ℕ}
+use Rattle.wire.proofs.Cases.{clash}
 use Rattle.payload.specs.Places.{Read, whole, refused}
-use Rattle.payload.proofs.CodeReads.{clash}
 use Rattle.cells.specs.declared.TypeInfo.{TypeInfo}
 use Rattle.cells.specs.declared.TypeAt.{TypeAt}
 use Rattle.cells.specs.declared.TypeRead.{TypeRead}

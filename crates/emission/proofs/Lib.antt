@@ -1,6 +1,5 @@
 pub mod BySets
 pub mod Sizes
-pub mod Stops
 pub mod Aheads
 pub mod Turns
 pub mod Values

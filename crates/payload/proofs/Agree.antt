@@ -7,10 +7,10 @@ use native.Mathlib.Omega.{arith}
 use lib.Dec.{leb}
 use lib.ListN.{length, drop}
 use borrow.Author.Tests.{leb-true}
+use Rattle.wire.proofs.Cases.{clash}
 use Rattle.wire.specs.Le.{leAt}
 use Rattle.wire.specs.declared.Part.{Part}
 use Rattle.payload.specs.Places.{Source, Place, Read, whole, refused, numberAt, partAt, must, then}
-use Rattle.payload.proofs.CodeReads.{clash}
 use Rattle.payload.proofs.Sources.{Same}
 
 -- the same value and the same place, from a place on and within n bytes; or the same refusal

@@ -8,7 +8,7 @@ use native.Mathlib.Omega.{arith}
 use lib.Dec.{leb, eqb}
 use lib.ListN.{length, drop}
 use borrow.Author.Tests.{le-leb, lt-leb, eq-eqb, ne-eqb, eqb-true}
-use Rattle.wire.proofs.Cases.{split}
+use Rattle.wire.proofs.Cases.{split, clash}
 use Rattle.wire.specs.Le.{leAt}
 use Rattle.wire.specs.declared.Part.{Part}
 use Rattle.payload.specs.declared.NumberAt.{NumberAt}
@@ -19,9 +19,6 @@ use Rattle.payload.specs.declared.PartRead.{PartRead}
 use Rattle.payload.specs.declared.PartRead.the-variants as part
 use Rattle.payload.specs.Places.{Source, Place, Read, whole, refused, numberAt, partAt, must, then}
 use Rattle.payload.specs.Answers.{numberRead, partRead, Below}
-
-pub clash {ℓ} : {X : Type ℓ} → _≡_ {A = ℕ} 0 1 → X
-clash z = absurd (omega arith)
 
 pub and-true : (a b : Bool) → (a && b) ≡ true → (a ≡ true) × (b ≡ true)
 and-true true b e = (refl, e)

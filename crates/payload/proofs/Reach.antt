@@ -7,7 +7,7 @@ use native.Mathlib.Omega.{arith}
 use lib.Dec.{leb, eqb}
 use lib.ListN.{length, take, drop, getD, length-drop}
 use borrow.Author.Tests.{le-leb, lt-leb, leb-true, leb-false, eqb-true, not-false}
-use Rattle.wire.proofs.Cases.{split, by-test}
+use Rattle.wire.proofs.Cases.{split, by-test, clash}
 use Rattle.wire.specs.Le.{leAt}
 use Rattle.wire.proofs.Le.{le-one}
 use Rattle.payload.specs.declared.frames.Frame.{Frame}
@@ -21,7 +21,7 @@ use Rattle.payload.specs.declared.NumberRead.the-variants as number
 use Rattle.payload.specs.declared.PartRead.the-variants as part
 use Rattle.payload.specs.Positions.{cornerFrom}
 use Rattle.payload.specs.Frames.{lies, beyond, sourceFrom, frameOf, reachFrom, nowhereOf, reachOf, frameBy, frameAt}
-use Rattle.payload.proofs.CodeReads.{clash, and-true, number-stands, part-stands, part-cut}
+use Rattle.payload.proofs.CodeReads.{and-true, number-stands, part-stands, part-cut}
 use Rattle.payload.proofs.Sources.{Same, same-self, same-later, same-then}
 use Rattle.payload.proofs.Onto.{here, lying, source-from, source-length, source-stop, Onto, After, goes, overs, breaks, bads, after, onto-same}
 

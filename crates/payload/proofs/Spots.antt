@@ -7,7 +7,7 @@ use native.Mathlib.Omega.{arith}
 use lib.Dec.{leb}
 use lib.ListN.{length, drop, length-append, length-drop}
 use borrow.Author.Tests.{le-leb, lt-leb, leb-true}
-use Rattle.wire.proofs.Cases.{split}
+use Rattle.wire.proofs.Cases.{split, clash}
 use Rattle.payload.specs.declared.frames.Frame.{Frame}
 use Rattle.payload.specs.declared.frames.Next.{Next}
 use Rattle.payload.specs.declared.frames.Next.the-variants as next
@@ -18,7 +18,6 @@ use Rattle.payload.specs.declared.frames.Spotted.the-variants as spotted
 use Rattle.payload.specs.Packets.{Packets, packet, stop, Stop, bad, broken, over, nextOf, packetsIn, payloadOf, sourceOf}
 use Rattle.payload.specs.Positions.{Placed, at, refused, lostAt, placeFrom, placeIn, Corner, cornerFrom, cornerOf}
 use Rattle.payload.specs.Frames.{lies, beyond, sourceFrom, framed, frameOf, withinFrame, spotFrom, spotIn, reachFrom, reachOf}
-use Rattle.payload.proofs.CodeReads.{clash}
 use Rattle.payload.proofs.Sources.{Same, same-later, same-then}
 use Rattle.payload.proofs.Onto.{here, Onto, After, goes, overs, breaks, bads, after, after-by, onto-of, onto-same, First, Begins, first, begun-by, first-same}
 use Rattle.payload.proofs.Onto as onto

@@ -8,6 +8,7 @@ use lib.Dec.{eqb, leb, ltb}
 use lib.ListN.{length, take, drop, drop-of-length-le}
 use lib.Seq.{drop-cons}
 use borrow.Author.Tests.{leb-true, eqb-true, le-leb, le-ltb, ltb-false, eq-eqb}
+use Rattle.wire.proofs.Cases.{clash}
 use Rattle.wire.proofs.Parts.{rest-is}
 use Rattle.wire.specs.Le.{leAt}
 use Rattle.wire.specs.Be.{beAt}
@@ -23,7 +24,7 @@ use Rattle.packet.specs.Header.{headerFor, parsedOf}
 use Rattle.payload.specs.declared.frames.Next.the-variants as next
 use Rattle.payload.specs.Packets.{packet, stop, bad, broken, over, isPart, headed, nextOf, packetsFrom, packetsIn}
 use Rattle.payload.specs.Frames.{isNext, nextLength, faultIn, faultOf}
-use Rattle.payload.proofs.CodeReads.{clash, and-true}
+use Rattle.payload.proofs.CodeReads.{and-true}
 
 -- a packet that passes has a payload byte or more, and its bytes are lent
 is-part : (h : PacketHeader) (n : ℕ) → isPart h n ≡ true → (9 ≤ h .length) × (h .length ≤ n)

@@ -1,6 +1,7 @@
 -- What the answers for a token and for the texts of a message tell. Assumes nothing.
 use mathlib.Core.Path.{_≡_}
 use Prim.Native.Nat.{ℕ}
+use Rattle.wire.proofs.Cases.{clash}
 use Rattle.reader.specs.declared.Token.{Token}
 use Rattle.reader.specs.declared.token_reader.Texts.{Texts}
 use Rattle.reader.specs.declared.token_reader.TextsRead.{TextsRead}
@@ -9,7 +10,6 @@ use Rattle.reader.specs.declared.token_reader.TokenRead.{TokenRead}
 use Rattle.reader.specs.declared.token_reader.TokenRead.the-variants as token
 use Rattle.payload.specs.Places.{Read, whole, refused}
 use Rattle.reader.specs.Code.{tokenRead, textsRead}
-use Rattle.payload.proofs.CodeReads.{clash}
 
 pub texts-is : (x : Read Texts) {r : TextsRead} {t : Texts} {to : ℕ} → r ≡ textsRead x → r ≡ texts.Whole t to → x ≡ whole t to
 texts-is (whole u at) {t = t} {to = to} e f = let p : u ≡ t = cc in let q : at ≡ to = cc in rw (p, q)

@@ -56,6 +56,10 @@ parameterCut = 30
 abbrev pub parameterNotRead : ℕ
 parameterNotRead = 31
 
+-- the headers length of a request is 0 to 3, so that it cannot hold its own four bytes
+abbrev pub headersTooSmall : ℕ
+headersTooSmall = 35
+
 -- ---- Script's author
 
 -- a record is cut

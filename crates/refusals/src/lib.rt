@@ -45,6 +45,9 @@ pub const PARAMETER_CUT: u8 = 30;
 // A parameter's type is not read, it is encrypted, or a second call follows.
 pub const PARAMETER_NOT_READ: u8 = 31;
 
+// The headers length of a request is 0 to 3, so that it cannot hold its own four bytes.
+pub const HEADERS_TOO_SMALL: u8 = 35;
+
 // ---- Script's author
 
 // A record is cut.

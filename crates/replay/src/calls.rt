@@ -1,5 +1,6 @@
 // The calls of a list by their names, and how an answer is held against the one that the line holds.
 use crate::builds;
+use crate::captures;
 use crate::headers;
 use crate::logins;
 use crate::procedures;
@@ -41,6 +42,7 @@ fn follows_number(name: &[u8]) -> bool {
     check::same(name, b"parse_login7")
         | check::same(name, b"parse_rpc_request")
         | check::same(name, b"room_in_packets")
+        | check::same(name, b"capture_marks")
 }
 
 // The same of a call whose answer is words.
@@ -69,6 +71,9 @@ fn tell(line: &[u8], name: &[u8], input: &[u8], out: &mut [u8]) -> usize {
     }
     if check::same(name, b"parse_rpc_request") {
         return procedures::parse(line, input, out);
+    }
+    if check::same(name, b"capture_marks") {
+        return captures::marks(line, input, out);
     }
     tell_request(name, input, out)
 }

@@ -3,6 +3,7 @@
 // last `replayed N, D differ`.
 mod builds;
 mod calls;
+mod captures;
 mod headers;
 mod logins;
 mod procedures;

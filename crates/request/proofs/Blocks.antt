@@ -3,8 +3,6 @@ use mathlib.Core.Path.{_≡_, refl, sym, ap, _∙_}
 use mathlib.Core.List.{List, [], _∷_}
 use mathlib.Core.Bool.{Bool, true, cond, _&&_}
 use Prim.Native.Nat.{ℕ, zero, suc, _+_, _-_, _≤_, _<_}
-use native.Mathlib.Nat.{lt-of-not-le}
-use native.Mathlib.Decide.{decLe}
 use native.Mathlib.Omega.{arith}
 use lib.ListN.{length, drop, length-drop}
 use lib.Seq.{drop-drop}
@@ -15,39 +13,76 @@ use types.Run.{OneOf}
 use mathlib.Core.Logic.{inl, inr}
 use Rattle.request.proofs.Headers.{the-type}
 use Rattle.wire.specs.Le.{leAt}
-use Rattle.request.specs.Headers.{allHeaders}
+use Rattle.wire.proofs.Cases.{split}
+use Rattle.request.specs.Headers.{allHeaders, CannotBe}
 use Rattle.request.specs.Transaction.{broken, isDescriptor, descriptorIn}
 use Rattle.request.specs.declared.Headers.{Headers}
-use Rattle.request.specs.declared.Headers.the-variants.{Length, Short, PastEnd}
+use Rattle.request.specs.declared.Headers.the-variants.{Length, Short, TooSmall, PastEnd}
 use Rattle.request.specs.declared.Descriptor.the-variants.{Found, Missing}
 
--- ---- the block lies in the request
+-- ---- the headers length, by its cases
 
--- a request that has no whole block
-pub no-block : (X : Headers → Type 0) (h : Headers) → OneOf (1 ∷ 2 ∷ []) (tagOf the-type h) → X Short → X PastEnd → X h
-no-block X (Length n) (inl e) x y = absurd (omega (arith, e))
-no-block X (Length n) (inr e) x y = absurd (omega (arith, e))
-no-block X Short k x y = x
-no-block X PastEnd k x y = y
+module _ (body : List ℕ) where
+  abbrev N : ℕ
+  N = leAt 4 body
 
-abbrev Within : ℕ → Headers → Type 0
-Within m Short = Unit {0}
-Within m PastEnd = Unit {0}
-Within m (Length n) = n ≤ m
+  pub is-short : length body < 4 → allHeaders body ≡ Short
+  unfolding allHeaders
+  is-short h = rw (lt-ltb (length body) 4 h)
 
-within : (body : List ℕ) → Within (length body) (allHeaders body)
-unfolding allHeaders
-within body =
-    elim (decLe 4 (length body)) [
-      | yes h ↦ elim (decLe (leAt 4 body) (length body)) [
-        | yes k ↦ simp (le-ltb (length body) 4 h, le-ltb (length body) (leAt 4 body) k) k
-        | no k ↦ simp (le-ltb (length body) 4 h, lt-ltb (length body) (leAt 4 body) (lt-of-not-le k)) tt
-      ]
-      | no h ↦ simp (lt-ltb (length body) 4 (lt-of-not-le h)) tt
-    ]
+  module _ (h : 4 ≤ length body) where
+    pub is-small : N < 4 → allHeaders body ≡ TooSmall
+    unfolding allHeaders
+    is-small k = rw (le-ltb (length body) 4 h, lt-ltb N 4 k)
 
-pub block-in : (body : List ℕ) {n : ℕ} → allHeaders body ≡ Length n → n ≤ length body
-block-in body e = rw e at (within body)
+    module _ (k : 4 ≤ N) where
+      pub is-past : length body < N → allHeaders body ≡ PastEnd
+      unfolding allHeaders
+      is-past l = rw (le-ltb (length body) 4 h, le-ltb N 4 k, lt-ltb (length body) N l)
+
+      pub is-length : N ≤ length body → allHeaders body ≡ Length N
+      unfolding allHeaders
+      is-length l = rw (le-ltb (length body) 4 h, le-ltb N 4 k, le-ltb (length body) N l)
+
+  -- what each says of the request
+  abbrev Says : Headers → Type 0
+  Says Short = Unit {0}
+  Says TooSmall = CannotBe body
+  Says PastEnd = Unit {0}
+  Says (Length n) = (4 ≤ n) × (n ≤ length body)
+
+  says : Says (allHeaders body)
+  says =
+      split 4 (length body)
+      (λ h.
+      split 4 N
+      (λ k. split N (length body) (λ l. rw (is-length h k l) (k, l)) (λ l. rw (is-past h k l) tt))
+      (λ k. rw (is-small h k) (h, k)))
+      (λ h. rw (is-short h) tt)
+
+  -- the block holds its own length and lies in the request
+  pub block-in : {n : ℕ} → allHeaders body ≡ Length n → (4 ≤ n) × (n ≤ length body)
+  block-in e = rw e at says
+
+  pub cannot-be : allHeaders body ≡ TooSmall → CannotBe body
+  cannot-be e = rw e at says
+
+-- a request that has no whole block, and one whose block is cut
+pub no-block : (X : Headers → Type 0) (h : Headers) → OneOf (1 ∷ 2 ∷ 3 ∷ []) (tagOf the-type h) → X Short → X TooSmall → X PastEnd → X h
+no-block X (Length n) (inl e) x y z = absurd (omega (arith, e))
+no-block X (Length n) (inr (inl e)) x y z = absurd (omega (arith, e))
+no-block X (Length n) (inr (inr e)) x y z = absurd (omega (arith, e))
+no-block X Short k x y z = x
+no-block X TooSmall k x y z = y
+no-block X PastEnd k x y z = z
+
+pub cut-block : (X : Headers → Type 0) (h : Headers) → OneOf (1 ∷ 3 ∷ []) (tagOf the-type h) → X Short → X PastEnd → X h
+cut-block X (Length n) (inl e) x y = absurd (omega (arith, e))
+cut-block X (Length n) (inr e) x y = absurd (omega (arith, e))
+cut-block X TooSmall (inl e) x y = absurd (omega (arith, e))
+cut-block X TooSmall (inr e) x y = absurd (omega (arith, e))
+cut-block X Short k x y = x
+cut-block X PastEnd k x y = y
 
 -- ---- the walk
 

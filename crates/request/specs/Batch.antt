@@ -6,14 +6,14 @@ use mathlib.Core.List.{List}
 use mathlib.Core.Bool.{cond}
 use lib.Dec.{eqb}
 use lib.ListN.{length, take, drop}
-use Rattle.refusals.specs.Numbers.{batchEmpty, batchNotUtf16, batchTooShort, headersPastEnd}
+use Rattle.refusals.specs.Numbers.{batchEmpty, batchNotUtf16, batchTooShort, headersPastEnd, headersTooSmall}
 use Rattle.wire.specs.declared.Part.{Part}
 use Rattle.text.specs.Units.{units}
 use Rattle.text.specs.Surrogates.{wellFormed}
 use Rattle.text.specs.Trim.{trimmed}
 use Rattle.request.specs.Headers.{allHeaders}
 use Rattle.request.specs.declared.Headers.{Headers}
-use Rattle.request.specs.declared.Headers.the-variants.{Length, Short, PastEnd}
+use Rattle.request.specs.declared.Headers.the-variants.{Length, Short, TooSmall, PastEnd}
 use Rattle.request.specs.declared.Batch.{Batch}
 use Rattle.request.specs.declared.Batch.the-variants.{Text, Refused}
 
@@ -29,9 +29,10 @@ movedBy at p = record { start = at + p .start; len = p .len }
 unfoldable pub batchText : List ℕ → ℕ → Batch
 batchText body at = cond (wellFormed (sqlFrom body at)) (Text (movedBy at (trimmed (sqlFrom body at)))) (Refused batchNotUtf16)
 
--- after the headers: 2 under 4 bytes, 3 headers past the end
+-- after the headers: 2 under 4 bytes, 35 headers that cannot be, 3 headers past the end
 abbrev pub batchAfter : List ℕ → Headers → Batch
 batchAfter body Short = Refused batchTooShort
+batchAfter body TooSmall = Refused headersTooSmall
 batchAfter body PastEnd = Refused headersPastEnd
 batchAfter body (Length n) = batchText body n
 

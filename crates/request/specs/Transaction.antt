@@ -5,19 +5,20 @@ use mathlib.Core.List.{List, [], _∷_}
 use mathlib.Core.Bool.{Bool, cond, _&&_, _||_}
 use lib.Dec.{leb, ltb, eqb}
 use lib.ListN.{length, take, drop}
-use Rattle.refusals.specs.Numbers.{noTransactionType}
+use Rattle.refusals.specs.Numbers.{headersTooSmall, noTransactionType}
 use Rattle.wire.specs.Le.{leAt}
 use Rattle.request.specs.Headers.{allHeaders}
 use Rattle.request.specs.declared.Headers.{Headers}
-use Rattle.request.specs.declared.Headers.the-variants.{Length, Short, PastEnd}
+use Rattle.request.specs.declared.Headers.the-variants.{Length, Short, TooSmall, PastEnd}
 use Rattle.request.specs.declared.TransactionRequest.{TransactionRequest}
 use Rattle.request.specs.declared.TransactionRequest.the-variants.{RequestType, Refused}
 use Rattle.request.specs.declared.Descriptor.{Descriptor}
 use Rattle.request.specs.declared.Descriptor.the-variants.{Found, Missing}
 
--- the type after the headers; 10 where there is none
+-- the type after the headers; 35 where these cannot be, 10 where there is no type
 abbrev pub typeAfter : List ℕ → Headers → TransactionRequest
 typeAfter body Short = Refused noTransactionType
+typeAfter body TooSmall = Refused headersTooSmall
 typeAfter body PastEnd = Refused noTransactionType
 typeAfter body (Length n) = cond (ltb (length body - n) 2) (Refused noTransactionType) (RequestType (leAt 2 (drop n body)))
 
@@ -46,11 +47,12 @@ descriptorIn zero (b ∷ l) =
     (cond (isDescriptor n header) (Found (leAt 8 (drop 6 header)) (leAt 4 (drop 14 header)))
     (descriptorIn (n - 1) l))
 
--- the headers of a request stand after the block's length, which the Rust takes here from 4 on
+-- the headers of a request stand after the block's length
 abbrev pub descriptorAfter : List ℕ → Headers → Descriptor
 descriptorAfter body Short = Missing
+descriptorAfter body TooSmall = Missing
 descriptorAfter body PastEnd = Missing
-descriptorAfter body (Length n) = cond (ltb n 4) Missing (descriptorIn 0 (take (n - 4) (drop 4 body)))
+descriptorAfter body (Length n) = descriptorIn 0 (take (n - 4) (drop 4 body))
 
 -- the transaction descriptor and the count of outstanding requests of a request; none is an answer
 unfoldable pub transactionDescriptor : List ℕ → Descriptor

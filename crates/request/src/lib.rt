@@ -4,6 +4,7 @@ use refusals::BATCH_EMPTY;
 use refusals::BATCH_NOT_UTF16;
 use refusals::BATCH_TOO_SHORT;
 use refusals::HEADERS_PAST_END;
+use refusals::HEADERS_TOO_SMALL;
 use refusals::INNER_LENGTH;
 use refusals::NO_TRANSACTION_TYPE;
 use refusals::OUTER_LENGTH;
@@ -28,6 +29,8 @@ pub enum Headers {
     Length(usize),
     // The request has no four bytes for it.
     Short,
+    // It is 0 to 3, so that it cannot hold its own four bytes.
+    TooSmall,
     // It is more than the request has.
     PastEnd,
 }
@@ -64,6 +67,9 @@ pub fn all_headers(body: &[u8]) -> Headers
         return Headers::Short;
     }
     let len = wire::get_u32_le(body, 0) as usize;
+    if len < 4 {
+        return Headers::TooSmall;
+    }
     if body.len() < len {
         return Headers::PastEnd;
     }
@@ -80,6 +86,7 @@ pub fn parse_sql_batch(body: &[u8]) -> Batch
     let headers = all_headers(body);
     match headers {
         Headers::Short => Batch::Refused(BATCH_TOO_SHORT),
+        Headers::TooSmall => Batch::Refused(HEADERS_TOO_SMALL),
         Headers::PastEnd => Batch::Refused(HEADERS_PAST_END),
         Headers::Length(at) => batch_text(body, at),
     }
@@ -110,6 +117,7 @@ pub fn parse_transaction_manager_request(body: &[u8]) -> TransactionRequest
     let headers = all_headers(body);
     match headers {
         Headers::Short | Headers::PastEnd => TransactionRequest::Refused(NO_TRANSACTION_TYPE),
+        Headers::TooSmall => TransactionRequest::Refused(HEADERS_TOO_SMALL),
         Headers::Length(at) => {
             if wire::left(body, at) < 2 {
                 return TransactionRequest::Refused(NO_TRANSACTION_TYPE);
@@ -125,13 +133,8 @@ pub fn parse_transaction_descriptor_header(body: &[u8]) -> Descriptor
 {
     let headers = all_headers(body);
     match headers {
-        Headers::Short | Headers::PastEnd => Descriptor::Missing,
-        Headers::Length(end) => {
-            if end < 4 {
-                return Descriptor::Missing;
-            }
-            descriptor_in(&body[4..end])
-        }
+        Headers::Short | Headers::TooSmall | Headers::PastEnd => Descriptor::Missing,
+        Headers::Length(end) => descriptor_in(&body[4..end]),
     }
 }
 

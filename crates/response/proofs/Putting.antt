@@ -9,12 +9,12 @@ use Rattle.wire.specs.Over.{Wrote}
 use Rattle.wire.proofs.Over.{then, length-over}
 use denote.Enum.Declared.{tagOf}
 use types.Run.{OneOf}
-use mathlib.Core.Logic.{inl, inr}
 use Rattle.script.proofs.Found.{the-type}
 use Rattle.script.specs.declared.Found.{Found}
-use Rattle.script.specs.declared.Found.the-variants.{Record, Cut, End}
+use Rattle.script.specs.declared.Found.the-variants.{Record}
 use Rattle.script.specs.Records.{item, records, recordAt}
 use Rattle.script.proofs.Walk.{turn, cuts, ends}
+use Rattle.script.proofs.Stops.{stops}
 use Rattle.response.specs.Lists.{allBytes}
 use Rattle.response.proofs.Writing.{nothing}
 
@@ -36,10 +36,7 @@ module _ (bytes : ℕ → List ℕ → List ℕ) (s old : List ℕ) (at : ℕ) w
     -- no record stands there: the end, or a cut one
     pub putting-stop : (r : Found) → r ≡ recordAt s from → OneOf (1 ∷ 2 ∷ []) (tagOf the-type r) → Wrote old at (allBytes bytes (records s)) new place
     unfolding allBytes
-    putting-stop (Record k st n) e (inl h) = absurd (omega (arith, h))
-    putting-stop (Record k st n) e (inr h) = absurd (omega (arith, h))
-    putting-stop Cut e h = all (rw (cuts s from (sym e)))
-    putting-stop End e h = all (rw (ends s from (sym e)))
+    putting-stop r e h = stops e h (λ f. all (rw (cuts s from f))) (λ f. all (rw (ends s from f)))
 
     -- a record, whose payload is the slice from its start on
     pub putting-next : (k st len : ℕ) {next : List ℕ} {to : ℕ} → recordAt s from ≡ Record k st len

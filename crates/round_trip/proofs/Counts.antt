@@ -9,7 +9,8 @@ use native.Mathlib.Nat.{add-zero, zero-add, add-suc, suc-add}
 use lib.Dec.{eqb}
 use lib.ListN.{length, length-map}
 use borrow.Author.Tests.{eqb-true, not-true}
-use Rattle.payload.proofs.CodeReads.{clash, and-true}
+use Rattle.wire.proofs.Cases.{clash}
+use Rattle.payload.proofs.CodeReads.{and-true}
 use Rattle.token.specs.Tokens.{Token, Value, metadata, column, row, cell, done, message}
 use Rattle.script.specs.Records.{records}
 use Rattle.script.specs.Sets.{ScriptSet, setsIn}

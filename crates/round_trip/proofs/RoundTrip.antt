@@ -10,7 +10,7 @@ use lib.Dec.{eqb, leb, ltb}
 use lib.ListN.{length, take, drop}
 use lib.Seq.{take-at}
 use borrow.Author.Tests.{ltb-false, leb-true, eqb-true}
-use Rattle.wire.proofs.Cases.{by-test}
+use Rattle.wire.proofs.Cases.{by-test, clash}
 use Rattle.wire.specs.Over.{overwrite}
 use Rattle.wire.proofs.Over.{over-eq}
 use Rattle.packet.specs.Agreed.{isPacketSize}
@@ -30,7 +30,7 @@ use Rattle.emission.proofs.Replies.{size-error}
 use Rattle.script.specs.Runs.{ahead}
 use Rattle.result.specs.Built.{repliesOf, roomFor, roomOf, roomAt, fitted, builtOf, bufferOf, builtInPackets, bufferInPackets}
 use Rattle.payload.specs.Packets.{packetsIn}
-use Rattle.payload.proofs.CodeReads.{clash, and-true}
+use Rattle.payload.proofs.CodeReads.{and-true}
 use Rattle.payload.proofs.Joined.{Whole, joined-one}
 use Rattle.payload.proofs.Joined as cuts
 use Rattle.reader.proofs.ReadBack.{reads-back}

@@ -3,9 +3,8 @@ use mathlib.Core.Path.{_≡_, sym, ap, _∙_}
 use mathlib.Core.Bool.{not, _&&_}
 use mathlib.Core.List.{List, [], _∷_}
 use Prim.Native.Nat.{ℕ}
-use Rattle.wire.proofs.Cases.{by-test}
+use Rattle.wire.proofs.Cases.{by-test, clash}
 use Rattle.payload.specs.Places.{Place, Read, whole, refused, must, then}
-use Rattle.payload.proofs.CodeReads.{clash}
 use Rattle.rpc.specs.declared.Head.{Head}
 use Rattle.rpc.specs.declared.ParameterAt.{ParameterAt}
 use Rattle.rpc.specs.declared.Seen.{Seen}

@@ -10,7 +10,7 @@ use Rattle.wire.specs.Le.{leAt}
 use Rattle.wire.specs.declared.Part.{Part}
 use Rattle.request.specs.Headers.{allHeaders}
 use Rattle.request.specs.declared.Headers.{Headers}
-use Rattle.request.specs.declared.Headers.the-variants.{Length, Short, PastEnd}
+use Rattle.request.specs.declared.Headers.the-variants.{Length, Short, TooSmall, PastEnd}
 use Rattle.payload.specs.Places.{bodySource, Source, Place, Read, whole, refused}
 use Rattle.payload.proofs.Each.{Each, got, none, each-of, cond-each, must-each, number-each, part-each, then-each}
 use Rattle.cells.specs.declared.Value.{Value}
@@ -141,6 +141,7 @@ module _ (b : Source) where
 
   after-in : (h : Headers) → Each SentTo (callAfter b h)
   after-in Short = none
+  after-in TooSmall = none
   after-in PastEnd = none
   after-in (Length n) = call-in n
 

@@ -1,26 +1,28 @@
--- A request is refused with 29, 30 or 31: field by field, in the order in which they are read. Assumes nothing.
+-- A request is refused with 35, or with 29, 30 or 31: field by field, in the order in which they are read. Assumes nothing.
 use mathlib.Core.Path.{_≡_, refl}
 use mathlib.Core.Bool.{Bool, true, false, cond}
-use mathlib.Core.Logic.{inl, inr}
+use mathlib.Core.Logic.{_⊎_, inl, inr}
 use Prim.Native.Nat.{ℕ, zero, suc}
 use lib.Dec.{eqb, leb}
+use native.Mathlib.Omega.{arith}
 use lib.ListN.{length}
+use Rattle.wire.proofs.Cases.{clash}
 use Rattle.request.specs.Headers.{allHeaders}
+use Rattle.request.proofs.TooSmall.{by-headers}
 use Rattle.request.specs.declared.Headers.{Headers}
-use Rattle.request.specs.declared.Headers.the-variants.{Length, Short, PastEnd}
+use Rattle.request.specs.declared.Headers.the-variants.{Length, Short, TooSmall, PastEnd}
 use Rattle.payload.specs.Places.{bodySource, Source, Place, Read, whole, refused, must, then}
-use Rattle.payload.proofs.CodeReads.{clash}
 use Rattle.rpc.specs.declared.Rpc.the-variants as rpc
 use Rattle.rpc.specs.Rpc.{renamed, inMetadata, valueAt, parameterAt, parametersAt, Sent, callAt, callAfter, told, rpcOf}
-use Rattle.rpc.specs.Refusals.{OwnNumber, RefusedByOwn}
+use Rattle.rpc.specs.Refusals.{CallNumber, OwnNumber, RefusedByOwn, CallTooSmall}
 
--- what is read, or is refused with a number of a call's own
+-- what is read, or is refused with a number of the call itself
 data Own {A : Type 0} : Read A → Type 0 where
   read : {a : A} {to : ℕ} → Own (whole a to)
-  number : {n : ℕ} → OwnNumber n → Own (refused n)
+  number : {n : ℕ} → CallNumber n → Own (refused n)
 
 module _ {A : Type 0} where
-  renamed-own : (name : ℕ → ℕ) (x : Read A) → ((n : ℕ) → OwnNumber (name n)) → Own (renamed name x)
+  renamed-own : (name : ℕ → ℕ) (x : Read A) → ((n : ℕ) → CallNumber (name n)) → Own (renamed name x)
   unfolding renamed
   renamed-own name (whole a to) f = read
   renamed-own name (refused n) f = number (f n)
@@ -29,7 +31,7 @@ module _ {A : Type 0} where
   cond-own true x y f g = f
   cond-own false x y f g = g
 
-  must-own : (b : Bool) (n : ℕ) (x : Read A) → OwnNumber n → Own x → Own (must b n x)
+  must-own : (b : Bool) (n : ℕ) (x : Read A) → CallNumber n → Own x → Own (must b n x)
   unfolding must
   must-own b n x f g = cond-own b x (refused n) g (number f)
 
@@ -38,10 +40,10 @@ unfolding then
 then-own (whole a to) go f g = g a to
 then-own (refused n) go (number f) g = number f
 
-metadata-own : (n : ℕ) → OwnNumber (inMetadata n)
+metadata-own : (n : ℕ) → CallNumber (inMetadata n)
 metadata-own n = go (eqb n 24)
   where
-    go : (b : Bool) → OwnNumber (cond b 30 31)
+    go : (b : Bool) → CallNumber (cond b 30 31)
     go true = inr (inl refl)
     go false = inr (inr refl)
 
@@ -65,15 +67,30 @@ module _ (b : Source) where
       then-own _ _ (renamed-own _ _ (λ n. inl refl)) (λ h a1.
       then-own _ _ (parameters-own _ a1) (λ ps a2. must-own _ _ _ (inr (inl refl)) read))
 
-  after-own : (h : Headers) → Own (callAfter b h)
-  after-own Short = number (inl refl)
-  after-own PastEnd = number (inl refl)
-  after-own (Length n) = call-own n
+module _ (number m : ℕ) where
+  own-of : (x : Read Sent) → Own x → told number x ≡ rpc.Refused m → CallNumber m
+  own-of (whole s to) f e = clash (cc)
+  own-of (refused n) (Own.number f) e = let g : n ≡ m = cc in rw g at f
 
-own-of : (number m : ℕ) (x : Read Sent) → Own x → told number x ≡ rpc.Refused m → OwnNumber m
-own-of asked m (whole s to) f e = clash (cc)
-own-of asked m (refused n) (number f) e = let g : n ≡ m = cc in rw g at f
+  after-own : (b : Source) (h : Headers) → told number (callAfter b h) ≡ rpc.Refused m → ((h ≡ TooSmall) × (m ≡ 35)) ⊎ CallNumber m
+  after-own b Short e = inr (own-of (refused 29) (Own.number (inl refl)) e)
+  after-own b TooSmall e = inl (refl, cc)
+  after-own b PastEnd e = inr (own-of (refused 29) (Own.number (inl refl)) e)
+  after-own b (Length n) e = inr (own-of (callAt b n) (call-own b n) e)
+
+-- 35 is no number of the call itself
+not-of-call : CallNumber 35 → ⊥
+not-of-call (inl e) = omega arith
+not-of-call (inr (inl e)) = omega arith
+not-of-call (inr (inr e)) = omega arith
 
 pub refused-by-own : RefusedByOwn
 unfolding rpcOf
-refused-by-own b asked n e = own-of asked n (callAfter (bodySource b) (allHeaders b)) (after-own (bodySource b) (allHeaders b)) e
+refused-by-own b asked n e = elim (after-own asked n (bodySource b) (allHeaders b) e) [ inl h ↦ inl (h .1) | inr f ↦ inr f ]
+
+pub call-too-small : CallTooSmall
+unfolding rpcOf
+call-too-small asked =
+    by-headers (rpc.Refused 35) (λ body h. told asked (callAfter (bodySource body) h))
+    (λ body k. refl)
+    (λ body h e. elim (after-own asked 35 (bodySource body) h e) [ inl f ↦ f .0 | inr f ↦ absurd (not-of-call f) ])

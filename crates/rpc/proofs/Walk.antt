@@ -8,9 +8,9 @@ use native.Mathlib.Omega.{arith}
 use lib.Dec.{eqb, leb, eqb·zero-suc, eqb·suc-zero, eqb·suc-suc}
 use lib.ListN.{length, length-append}
 use borrow.Author.Tests.{le-leb, lt-leb, leb-false}
-use Rattle.wire.proofs.Cases.{by-test}
+use Rattle.wire.proofs.Cases.{by-test, clash}
 use Rattle.payload.specs.Places.{Source, Place, Read, whole, refused, then}
-use Rattle.payload.proofs.CodeReads.{clash, then-got, then-not, then-same, if-so, if-not}
+use Rattle.payload.proofs.CodeReads.{then-got, then-not, then-same, if-so, if-not}
 use Rattle.rpc.specs.declared.Parameter.{Parameter}
 use Rattle.rpc.specs.declared.ParameterAt.{ParameterAt}
 use Rattle.rpc.specs.declared.Asked.the-variants as asked

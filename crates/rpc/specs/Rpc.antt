@@ -1,5 +1,5 @@
 -- A stored procedure call (MS-TDS 2.2.6.6, RPC Request: ALL_HEADERS, NameLenProcID, OptionFlags, then for each parameter its
--- ParamMetaData and its value), and who causes which refusal (document 02, 2026-01). Fields are read in their order, so that the
+-- ParamMetaData and its value), and who causes which refusal (document 02, 2026-01 and 2026-05). Fields are read in their order, so that the
 -- earliest byte at fault decides. Rests on request's headers, payload's places, and cells' types and values.
 -- docs/FORMATS.md, 'Requests that are read', has it in words.
 use Prim.Native.Nat.{ℕ, zero, suc, _-_, _*_}
@@ -7,12 +7,12 @@ use mathlib.Core.Bool.{Bool, true, false, cond, not, _&&_, _||_}
 use mathlib.Core.List.{List, [], _∷_}
 use lib.Dec.{eqb, leb}
 use lib.ListN.{length}
-use Rattle.refusals.specs.Numbers.{cutShort, innerWrong, callCut, parameterCut, parameterNotRead}
+use Rattle.refusals.specs.Numbers.{cutShort, innerWrong, callCut, parameterCut, parameterNotRead, headersTooSmall}
 use Rattle.wire.specs.declared.Part.{Part}
 use Rattle.packet.specs.Status.{hasBit}
 use Rattle.request.specs.Headers.{allHeaders}
 use Rattle.request.specs.declared.Headers.{Headers}
-use Rattle.request.specs.declared.Headers.the-variants.{Length, Short, PastEnd}
+use Rattle.request.specs.declared.Headers.the-variants.{Length, Short, TooSmall, PastEnd}
 use Rattle.payload.specs.Places.{Source, bodySource, Place, Read, whole, refused, numberAt, partAt, must, then, partTo}
 use Rattle.cells.specs.declared.Value.{Value}
 use Rattle.cells.specs.declared.Value.the-variants as value
@@ -135,9 +135,10 @@ callAt src at =
     must (not (runsStatement (head .procedure) && isEmpty ps)) parameterCut
     (whole (record { head = head; parameters = ps }) a2)
 
--- the call after the headers, which are skipped as in batches
+-- the call after the headers, which are skipped as in batches; 35 where they cannot be
 abbrev pub callAfter : Source → Headers → Read Sent
 callAfter src Short = refused callCut
+callAfter src TooSmall = refused headersTooSmall
 callAfter src PastEnd = refused callCut
 callAfter src (Length n) = callAt src n
 

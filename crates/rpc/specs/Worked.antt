@@ -48,10 +48,13 @@ worked =
     ∷ (0, be 4 0x05000000, Refused 29)
     ∷ (0, be 6 0x04000000_0000, Refused 29)
     ∷ (0, be 7 0x04000000_FFFF_0A, Refused 29)
-    -- an empty name and no parameter; the headers' length may be under 4
+    -- a headers length that cannot be, whatever follows; of three bytes the length is cut
+    ∷ (0, be 4 0x00000000, Refused 35)
+    ∷ (0, be 4 0x03000000, Refused 35)
+    ∷ (0, be 8 0x03000000_0000_0000, Refused 35)
+    ∷ (0, be 3 0x000000, Refused 29)
+    -- an empty name and no parameter
     ∷ (0, be 8 0x04000000_0000_0000, call (Name (part 6 0)) statement.Missing asked.Missing)
-    ∷ (0, be 4 0x00000000, call (Name (part 2 0)) statement.Missing asked.Missing)
-    ∷ (0, be 6 0x00000000_0000, Refused 30)
     -- sp_executesql without a parameter; where a second call would follow
     ∷ (0, executed [], Refused 30)
     ∷ (0, executed (be 1 0xFF), Refused 31)

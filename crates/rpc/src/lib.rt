@@ -16,6 +16,7 @@ use payload::u8_at;
 use payload::u16_at;
 use refusals::CALL_CUT;
 use refusals::CUT;
+use refusals::HEADERS_TOO_SMALL;
 use refusals::INNER_WRONG;
 use refusals::PARAMETER_CUT;
 use refusals::PARAMETER_NOT_READ;
@@ -94,6 +95,7 @@ pub fn parse_rpc_request(body: &[u8], number: usize) -> Rpc
     let headers = request::all_headers(body);
     match headers {
         Headers::Short | Headers::PastEnd => Rpc::Refused(CALL_CUT),
+        Headers::TooSmall => Rpc::Refused(HEADERS_TOO_SMALL),
         Headers::Length(at) => call_at(body, at, number),
     }
 }

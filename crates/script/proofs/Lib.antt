@@ -4,3 +4,4 @@ pub mod Values
 pub mod Stages
 pub mod Runs
 pub mod Ordered
+pub mod Stops

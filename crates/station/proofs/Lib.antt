@@ -10,3 +10,4 @@ pub mod TypeSlots
 pub mod Typed
 pub mod Lasting
 pub mod Joins
+pub mod Captures

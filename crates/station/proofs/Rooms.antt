@@ -2,7 +2,7 @@
 use Prim.Native.Nat.{ℕ, zero, suc}
 use mathlib.Core.Path.{_≡_, ap}
 use mathlib.Core.Bool.{true, false}
-use Rattle.payload.proofs.CodeReads.{clash}
+use Rattle.wire.proofs.Cases.{clash}
 use Rattle.result.specs.declared.Built.{Built}
 use Rattle.result.specs.declared.Built.the-variants.{Written, Refused}
 use Rattle.result.specs.Built.{roomOf, roomAt, builtOf, builtInPackets, Enough}

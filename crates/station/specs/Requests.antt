@@ -1,4 +1,4 @@
--- What the exports that read requests answer. Rests on the definitions of `request`.
+-- What the exports that read requests, and captures of them, answer. Rests on the definitions of `request` and `capture_marks`.
 use Prim.Native.Nat.{ℕ}
 use mathlib.Core.List.{List, [], _∷_}
 use Rattle.request.specs.Batch.{sqlBatch}
@@ -12,6 +12,9 @@ use Rattle.request.specs.declared.Descriptor.{Descriptor}
 use Rattle.request.specs.declared.Descriptor.the-variants.{Found, Missing}
 use Rattle.request.specs.declared.FedAuthToken.{FedAuthToken}
 use Rattle.request.specs.declared.FedAuthToken.the-variants.{Bytes, Refused as TokenRefused}
+use Rattle.capture_marks.specs.Marks.{marksOf, countedOf}
+use Rattle.capture_marks.specs.declared.Marked.{Marked}
+use Rattle.capture_marks.specs.declared.Marked.the-variants.{Count, Refused as CaptureRefused}
 use Rattle.station.specs.Answer.{Outcome, answers, answersPart, refuses}
 
 -- a batch's text as a part of the body
@@ -45,3 +48,11 @@ tokenOutcome (TokenRefused n) = refuses n
 
 unfoldable pub tokenCall : List ℕ → Outcome
 tokenCall s = tokenOutcome (fedAuthToken s)
+
+-- how many records of a capture are marked, with their numbers
+abbrev pub captureOutcome : List ℕ → Marked → Outcome
+captureOutcome ms (Count n) = answers n ms
+captureOutcome ms (CaptureRefused n) = refuses n
+
+unfoldable pub captureCall : List ℕ → Outcome
+captureCall s = captureOutcome (marksOf s) (countedOf s)

@@ -1,11 +1,12 @@
-// Requests of a client: SQL batches, transaction manager requests, the transaction descriptor among their headers, and
-// federated authentication tokens.
+// Requests of a client: SQL batches, transaction manager requests, the transaction descriptor among their headers,
+// federated authentication tokens, and stored captures of requests.
 ghost use mathlib.Core.Path.{_≡_};
 ghost use Rattle.station.specs.Answer.{numberOf, answerOf, slotsOf};
-ghost use Rattle.station.specs.Requests.{batchCall, transactionCall, descriptorCall, tokenCall};
+ghost use Rattle.station.specs.Requests.{batchCall, transactionCall, descriptorCall, tokenCall, captureCall};
 use crate::slots::answered;
 use crate::slots::answered_part;
 use crate::slots::refused;
+use capture_marks::Marked;
 use request::Batch;
 use request::Descriptor;
 use request::FedAuthToken;
@@ -55,5 +56,17 @@ pub extern "C" fn station_parse_fedauth_token(payload: &[u8], out: &mut [u64]) -
     match request::parse_fedauth_token(payload) {
         FedAuthToken::Bytes(part) => answered_part(out, 0, part),
         FedAuthToken::Refused(number) => refused(number),
+    }
+}
+
+// How many records of a capture have a headers length that cannot be, with their numbers in the first slots.
+#[no_mangle]
+pub extern "C" fn station_capture_marks(capture: &[u8], out: &mut [u64]) -> i64
+    ensures { λ r. ⌜ r ≡ answerOf (captureCall (now (capture .entry))) (now (out .entry)) ⌝ }
+    ensures { λ _. ⌜ now (out .exit) ≡ slotsOf (captureCall (now (capture .entry))) (now (out .entry)) ⌝ }
+{
+    match capture_marks::marks(capture, out) {
+        Marked::Count(count) => count as i64,
+        Marked::Refused(number) => refused(number),
     }
 }

@@ -1,6 +1,6 @@
 //! Stored procedure calls: an input is the number of the asked parameter and a request. The answers are held
-//! against a reader written here from MS-TDS (2.2.6.6, RPC Request) and document 02's request 2026-01, apart
-//! from the proved one. Types and values are those of a reply's columns and cells, which the second reply
+//! against a reader written here from MS-TDS (2.2.6.6, RPC Request) and document 02's requests 2026-01 and
+//! 2026-05, apart from the proved one. Types and values are those of a reply's columns and cells, which the second reply
 //! reader reads.
 
 use crate::compact::Draw;
@@ -15,6 +15,9 @@ const NOT_THERE: [u64; 12] = [0; 12];
 const HEAD_CUT: u8 = 29;
 const PARAMETER_CUT: u8 = 30;
 const NOT_READ: u8 = 31;
+const HEADERS_TOO_SMALL: u8 = 35;
+/// The bytes of the headers' length, which it counts.
+const OWN_LENGTH: u64 = 4;
 
 const BY_NUMBER: u64 = 0xFFFF;
 const EXECUTE_SQL: u64 = 10;
@@ -63,7 +66,7 @@ pub fn ends(input: &[u8]) -> Vec<usize> {
 impl Call {
     fn read(&mut self, body: &[u8]) -> Read<()> {
         let mut cursor = Cursor::body(body);
-        self.head = head(&mut cursor).map_err(|_| HEAD_CUT)?;
+        self.head = head(&mut cursor)?;
         self.statement = NO_STATEMENT;
         self.ends.push(cursor.start() as usize);
         let executes = self.head[0] == 0 && self.head[3] == EXECUTE_SQL;
@@ -86,8 +89,15 @@ impl Call {
 
 /// ALL_HEADERS, over which its total length leads; NameLenProcID; OptionFlags.
 fn head(cursor: &mut Cursor) -> Read<[u64; 5]> {
-    let total = cursor.number(4)?;
-    cursor.skip_to(total)?;
+    let cut = |_| HEAD_CUT;
+    let total = cursor.number(4).map_err(cut)?;
+    must(total >= OWN_LENGTH, HEADERS_TOO_SMALL)?;
+    procedure(cursor, total).map_err(cut)
+}
+
+/// NameLenProcID and OptionFlags, which stand at a place.
+fn procedure(cursor: &mut Cursor, at: u64) -> Read<[u64; 5]> {
+    cursor.skip_to(at)?;
     let units = cursor.number(2)?;
     if units == BY_NUMBER {
         return Ok([0, 0, 0, cursor.number(2)?, cursor.number(2)?]);

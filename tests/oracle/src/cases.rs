@@ -67,7 +67,8 @@ fn cases_4_and_5_attention_and_transactions() {
 fn case_6_batches() {
     let part = |start, length| Ok(Part { start, length });
     assert_eq!(batch(&unhex("04000000 2000 4100 2000 7F")), part(6, 2));
-    assert_eq!(batch(&unhex("00000000")), part(0, 4));
+    assert_eq!(batch(&unhex("00000000")), Err(HEADERS_TOO_SMALL));
+    assert_eq!(batch(&unhex("000000")), Err(SHORT_BATCH));
     assert_eq!(batch(&unhex("05000000")), Err(HEADERS_PAST_END));
     assert_eq!(batch(&unhex("04000000 4100 3DD8 00")), Err(BATCH_NOT_UTF16));
     assert_eq!(batch(&unhex("04000000 2000 0900 FF")), part(8, 0));
@@ -77,8 +78,10 @@ fn case_6_batches() {
 fn cases_7_to_9_transactions_descriptors_tokens() {
     assert_eq!(transaction(&unhex("040000000500")), Ok(5));
     assert_eq!(transaction(&unhex("0400000005")), Err(NO_REQUEST_TYPE));
-    assert_eq!(transaction(&unhex("00000000")), Ok(0));
-    assert_eq!(transaction(&unhex("0300000005")), Ok(0x0500));
+    assert_eq!(transaction(&unhex("00000000")), Err(HEADERS_TOO_SMALL));
+    assert_eq!(transaction(&unhex("0300000005")), Err(HEADERS_TOO_SMALL));
+    assert_eq!(transaction(&unhex("000000")), Err(NO_REQUEST_TYPE));
+    assert_eq!(descriptor(&unhex("03000000")), None);
     let found = unhex("16000000 12000000 0200 0102030405060708 11121314");
     assert_eq!(descriptor(&found), Some((0x0807_0605_0403_0201, 0x1413_1211)));
     assert_eq!(descriptor(&[&[23], &found[1..]].concat()), None);

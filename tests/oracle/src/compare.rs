@@ -12,7 +12,7 @@ use std::sync::atomic::{AtomicBool, AtomicUsize, Ordering::Relaxed};
 
 const GUARD: usize = 16;
 const PATTERN_BYTES: usize = 1 << 18;
-const PATTERN_SLOTS: usize = 256;
+const PATTERN_SLOTS: usize = 1 << 14;
 /// Differences that are printed, in all and of one function.
 const PRINTED_AT_MOST: usize = 20;
 const PRINTED_OF_ONE: u64 = 5;

@@ -13,7 +13,8 @@
         feature = "login",
         feature = "result",
         feature = "response",
-        feature = "packets"
+        feature = "packets",
+        feature = "capture"
     )),
     allow(dead_code, unused_macros)
 )]
@@ -41,7 +42,7 @@ use std::process::ExitCode;
 use std::time::Instant;
 
 const USAGE: &str = "\
-oracle [quick|large] [header|text|request|login|result|response|packets ..] [seed=N] [trace]
+oracle [quick|large] [header|text|request|login|result|response|packets|capture ..] [seed=N] [trace]
 oracle vectors N [seed=N]
 oracle answers
 oracle tokens N [seed=N]";

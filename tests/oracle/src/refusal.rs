@@ -29,3 +29,5 @@ pub const ODD_ARGUMENT: u8 = 21;
 pub const ARGUMENT_NOT_UTF16: u8 = 22;
 /// A packet size under 512 or over 32,767 bytes.
 pub const PACKET_SIZE: u8 = 32;
+/// A headers length of 0 to 3, which cannot hold its own four bytes.
+pub const HEADERS_TOO_SMALL: u8 = 35;

@@ -76,6 +76,9 @@ exports! {
     station_parse_transaction_descriptor_header(body: bytes, out: slots);
     station_parse_rpc_request(body: bytes, number: u64, out: slots);
 
+    "capture":
+    station_capture_marks(capture: bytes, out: slots);
+
     "login":
     station_parse_login7(body: bytes, ids: buffer, out: slots);
     station_database(body: bytes, fallback: bytes, out: slots);

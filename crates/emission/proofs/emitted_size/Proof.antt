@@ -8,7 +8,7 @@ use mathlib.Core.List.{List}
 use Rattle.script.specs.declared.Found.the-variants.{Record}
 use Rattle.script.specs.Records.{recordAt}
 use Rattle.script.proofs.Walk
-use Rattle.emission.proofs.Stops.{stops}
+use Rattle.script.proofs.Stops.{stops}
 use Rattle.emission.proofs.Replies.{sizes-first, sizes-none, walked-cut, walked-end}
 use borrow.Author.Needs.{needs}
 use Rattle.emission.proofs.emitted_size.Statement.{statement}

@@ -6,7 +6,7 @@ use mathlib.Core.List.{List}
 use Rattle.script.specs.declared.Found.the-variants.{Record}
 use Rattle.script.specs.Records.{recordAt}
 use Rattle.script.proofs.Walk
-use Rattle.emission.proofs.Stops.{stops}
+use Rattle.script.proofs.Stops.{stops}
 use Rattle.emission.proofs.Walks.{errorPlace, errorBytes, error-here, error-none, error-later, error-cut, error-end}
 use mathlib.Core.Path.{_≡_, refl, sym, _∙_}
 use lib.ListN.{length}

@@ -6,7 +6,7 @@ use Rattle.script.specs.declared.Found.the-variants.{Record}
 use Rattle.script.specs.Records.{recordAt}
 use Rattle.script.proofs.Walk
 use Rattle.emission.specs.declared.Run.{Run}
-use Rattle.emission.proofs.Stops.{stops}
+use Rattle.script.proofs.Stops.{stops}
 use Rattle.emission.proofs.Aheads.{Reached, reached-start, reached-next, none-left, ahead-other, ahead-cut, ahead-end}
 use Prim.Native.Nat.{ℕ, _+_, _-_, _≤_}
 use mathlib.Core.Path.{_≡_, sym, ap, _∙_}

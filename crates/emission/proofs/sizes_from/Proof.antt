@@ -8,7 +8,7 @@ use Rattle.emission.specs.Emission.{bytesIn}
 use Rattle.emission.specs.Refusal.{faultIn}
 use Rattle.emission.specs.Runs.{capped}
 use Rattle.emission.proofs.Sizes.{cap-small}
-use Rattle.emission.proofs.Stops.{stops}
+use Rattle.script.proofs.Stops.{stops}
 use Rattle.emission.proofs.Walks.{left, left-bad, left-fault, left-size, left-cut, left-end, end-fault, end-size}
 use mathlib.Core.Path.{_≡_, refl, sym, _∙_}
 use lib.ListN.{length}

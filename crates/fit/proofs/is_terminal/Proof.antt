@@ -1,5 +1,5 @@
 -- `fit::is_terminal` meets its contract. Assumes nothing.
-use Rattle.emission.proofs.Stops.{stops}
+use Rattle.script.proofs.Stops.{stops}
 use Rattle.fit.proofs.Terminal.{terminal-cut, terminal-end, terminal-error, terminal-none}
 use Rattle.script.specs.declared.Found.the-variants.{Record}
 use Rattle.script.specs.Records.{recordAt}

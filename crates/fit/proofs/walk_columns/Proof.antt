@@ -1,7 +1,7 @@
 -- `fit::walk_columns` meets its contract. The loop's invariant: what the columns from `at` on have wrong is what the set's columns
 -- have, their types are those put down and those still to come, and the records passed have no misfit of their own. Assumes nothing.
 use Rattle.fit.proofs.ColumnTurns.{Left, columns-start, columns-cut, columns-end, columns-other, columns-ended, columns-wrong, columns-next, columns-room}
-use Rattle.emission.proofs.Stops.{stops}
+use Rattle.script.proofs.Stops.{stops}
 use Rattle.fit.proofs.Skip.{kind-is}
 use Rattle.script.proofs.Walk.{lies}
 use borrow.Author.Tests.{ne-eqb, not-true, not-false}

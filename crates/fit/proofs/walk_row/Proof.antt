@@ -1,7 +1,7 @@
 -- `fit::walk_row` meets its contract. The loop's invariant: what the cells from `at` on have against the columns that are left is
 -- what the row has against all its columns, and the records passed have no misfit of their own. Assumes nothing.
 use Rattle.fit.proofs.RowTurns.{Left, cells-cut, cells-end, cells-other, row-none, row-start, row-ended, row-chunk, row-wrong, row-next, row-room}
-use Rattle.emission.proofs.Stops.{stops}
+use Rattle.script.proofs.Stops.{stops}
 use Rattle.fit.proofs.Skip.{kind-is}
 use Rattle.script.proofs.Walk.{lies}
 use borrow.Author.Tests.{ne-eqb}

@@ -1,7 +1,7 @@
 -- `fit::walk_rows` meets its contract. The loop's invariant: the misfits of the records from `at` on are those from the first place on.
 -- Assumes nothing.
 use Rattle.fit.proofs.SetTurns.{Left, sets-cut, sets-end, sets-next, rows-start, rows-ended, rows-other, rows-wrong, rows-next, rows-onward}
-use Rattle.emission.proofs.Stops.{stops}
+use Rattle.script.proofs.Stops.{stops}
 use Rattle.fit.proofs.Skip.{kind-is}
 use Rattle.script.proofs.Walk.{lies}
 use borrow.Author.Tests.{ne-eqb}

@@ -1,6 +1,6 @@
 -- `fit::walk_sets` meets its contract. The loop's invariant: the first misfit of the sets from `at` on is the script's. Assumes nothing.
 use Rattle.fit.proofs.SetTurns.{LeftSets, all-cut, all-end, all-wrong, all-onward, all-next}
-use Rattle.emission.proofs.Stops.{stops}
+use Rattle.script.proofs.Stops.{stops}
 use Rattle.script.proofs.Walk.{lies}
 use Rattle.script.specs.Records.{recordAt}
 use Rattle.script.specs.declared.Found.the-variants.{Record}

@@ -29,11 +29,14 @@ enum-told c = search needs
 enum-told-2 : tie.Need-enum-told-2
 enum-told-2 c = search needs
 
+enum-told-3 : tie.Need-enum-told-3
+enum-told-3 c = search needs
+
 enum-known-headers : tie.Need-enum-known-headers
 enum-known-headers c = search needs
 
 batch-text-requires : tie.Need-batch-text-requires
-batch-text-requires c κs = block-in (now (c .before .before .before .before .before .before .args .body)) (told (c .before))
+batch-text-requires c κs = block-in (now (c .before .before .before .before .before .before .args .body)) (told (c .before)) .1
 
 returns-2 : tie.Need-returns-2
 unfolding sqlBatch
@@ -50,6 +53,12 @@ returns-3 c =
 returns-4 : tie.Need-returns-4
 unfolding sqlBatch
 returns-4 c =
+    let s = now (c .before .before .before .before .before .args .body) in
+    simp (ne-eqb (length s) 0 (omega arith), ← c .before .before .all-headers .ensures, c .enum-told3 .given .1)
+
+returns-5 : tie.Need-returns-5
+unfolding sqlBatch
+returns-5 c =
     let s = now (c .before .before .before .before .before .before .before .args .body) in
     simp (ne-eqb (length s) 0 (omega arith), told (c .before .before)) (c .batch-text .ensures)
 
@@ -61,8 +70,10 @@ parse-sql-batch-spec =
     all-headers-requires
     enum-told
     enum-told-2
+    enum-told-3
     enum-known-headers
     batch-text-requires
     returns-2
     returns-3
-    returns-4)
+    returns-4
+    returns-5)

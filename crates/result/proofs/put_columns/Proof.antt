@@ -1,5 +1,5 @@
 -- `result::put_columns` meets its contract. Assumes nothing.
-use Rattle.emission.proofs.Stops.{stops}
+use Rattle.script.proofs.Stops.{stops}
 use Rattle.emission.proofs.Aheads.{ahead-other, ahead-cut, ahead-end}
 use Rattle.wire.proofs.Over.{wrote-nothing, place-in, Owes, owes-less, owes-last}
 use Rattle.result.proofs.Writes.{columnsLeft, columns-more, columns-none}

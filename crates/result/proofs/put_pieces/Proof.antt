@@ -8,7 +8,7 @@ use mathlib.Core.List.{List}
 use Rattle.script.specs.declared.Found.the-variants.{Record}
 use Rattle.script.specs.Records.{recordAt}
 use Rattle.script.proofs.Walk
-use Rattle.emission.proofs.Stops.{stops}
+use Rattle.script.proofs.Stops.{stops}
 use Rattle.emission.proofs.Replies.{walked-first, walked-cut, walked-end}
 use Rattle.result.proofs.Writes.{put-none}
 use borrow.Author.Needs.{needs}

@@ -6,7 +6,7 @@ use Rattle.script.specs.declared.Found.the-variants.{Record}
 use Rattle.script.specs.Records.{recordAt}
 use Rattle.script.proofs.Walk
 use Rattle.emission.specs.Walk.{rowsAfter}
-use Rattle.emission.proofs.Stops.{stops}
+use Rattle.script.proofs.Stops.{stops}
 use Rattle.wire.proofs.Over.{Owes, owes-less, owes-last, place-in}
 use Rattle.result.proofs.Writes.{recordsLeft, records-more, records-cut, records-end}
 use mathlib.Core.Path.{_≡_, refl, sym, _∙_}

@@ -1,5 +1,6 @@
 //! What the Rust answers to a call, in the numbers of document 01.
 
+pub mod capture;
 pub mod counted;
 pub mod header;
 pub mod login;

@@ -1,12 +1,23 @@
 //! Requests as the Rust reads them. Its texts are held against the part they stand in.
+//!
+//! The Rust accepts headers lengths of 0 to 3. We refuse them (document 02, 2026-05), so that its
+//! answers to batches and transaction requests are compared for lengths from 4 up.
 
 use super::Part;
 use crate::protocol::{self, ProtocolError};
 use crate::refusal::*;
 use crate::utf16;
 
+/// Whether the headers length is there and cannot hold its own four bytes.
+pub fn too_small(body: &[u8]) -> bool {
+    body.first_chunk().is_some_and(|length| u32::from_le_bytes(*length) < 4)
+}
+
 /// The trimmed text. The start is trimmed first: a blank text is the empty part at its end.
 pub fn batch(body: &[u8]) -> Answer<Part> {
+    if too_small(body) {
+        return Err(HEADERS_TOO_SMALL);
+    }
     let text = protocol::parse_sql_batch(body).map_err(batch_refusal)?;
     let headers = u32::from_le_bytes(body[..4].try_into().unwrap()) as usize;
     let whole = String::from_utf16(&utf16::units(&body[headers..])).unwrap();
@@ -30,6 +41,9 @@ fn batch_refusal(error: ProtocolError) -> u8 {
 }
 
 pub fn transaction(body: &[u8]) -> Answer<u16> {
+    if too_small(body) {
+        return Err(HEADERS_TOO_SMALL);
+    }
     protocol::parse_transaction_manager_request(body).ok_or(NO_REQUEST_TYPE)
 }
 

@@ -1,5 +1,7 @@
 //! The groups of comparisons, each under the feature of its name.
 
+#[cfg(feature = "capture")]
+pub mod capture;
 #[cfg(feature = "header")]
 pub mod header;
 #[cfg(feature = "login")]
@@ -39,7 +41,7 @@ impl Size {
 pub type Group = fn(Size) -> Vec<Check>;
 
 /// All groups by name; those that are not built in have no function.
-pub fn groups() -> [(&'static str, Option<Group>); 7] {
+pub fn groups() -> [(&'static str, Option<Group>); 8] {
     macro_rules! group {
         ($module:ident, $name:literal) => {{
             #[cfg(feature = $name)]
@@ -57,5 +59,6 @@ pub fn groups() -> [(&'static str, Option<Group>); 7] {
         group!(result, "result"),
         group!(response, "response"),
         group!(packets, "packets"),
+        group!(capture, "capture"),
     ]
 }

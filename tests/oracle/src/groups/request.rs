@@ -20,6 +20,7 @@ pub fn compare(size: Size) -> Vec<Check> {
     let mut requests = Requests::new();
     let mut random = size.random("request");
     requests.every_short_body();
+    requests.every_small_body();
     requests.every_headers_length(&mut random);
     requests.headers_lengths_at_borders();
     requests.every_unit_at_both_ends();
@@ -93,6 +94,17 @@ impl Requests {
             self.all(&[first]);
             for second in 0..=0xFF {
                 self.all(&[first, second]);
+            }
+        }
+    }
+
+    /// All bodies of four and five bytes that are 00 to 05 or FF.
+    fn every_small_body(&mut self) {
+        const BYTES: [u8; 7] = [0, 1, 2, 3, 4, 5, 0xFF];
+        for length in [4, 5] {
+            for number in 0..7usize.pow(length) {
+                let digit = |place| BYTES[number / 7usize.pow(place) % 7];
+                self.all(&(0..length).map(digit).collect::<Vec<u8>>());
             }
         }
     }

@@ -1,5 +1,6 @@
 //! Inputs by seed: good ones of every kind, and damaged copies of them.
 
+pub mod capture;
 pub mod header;
 pub mod login;
 pub mod request;

@@ -17,6 +17,8 @@ pub const PLAIN_ROUTE: u16 = 0x0011;
 pub const DATABASE_ROUTE: u16 = 0x0012;
 /// The kind of a list of features.
 pub const FEATURE: u16 = 0x0013;
+/// The kind of a capture: a request's body.
+pub const REQUEST_BODY: u16 = 0x0021;
 
 /// Splits the first record off: its kind, its payload and the bytes after it.
 pub fn first(bytes: &[u8]) -> Answer<(u16, &[u8], &[u8])> {

@@ -1,12 +1,14 @@
-//! Headers, texts, requests and logins.
+//! Headers, texts, requests, captures of them, and logins.
 
 use super::{Vectors, joined, print_line, print_read, words};
 use crate::answers::Part;
+use crate::answers::capture::marks;
 use crate::answers::header::{Fields, header, written};
 use crate::answers::login::{Login, login};
 use crate::answers::request::{batch, descriptor, fedauth, transaction};
 use crate::answers::text::{counts, is_whitespace};
 use crate::hex::{packed, unhex};
+use crate::inputs::capture::random_capture;
 use crate::inputs::header::{BYTES, NUMBERS, PACKET_TYPES, random_fields, random_header};
 use crate::inputs::login::{Feature, random_login, scattered_login, token_data};
 use crate::inputs::request::*;
@@ -21,6 +23,7 @@ pub fn print(vectors: Vectors) {
     white_space();
     texts(vectors);
     requests(vectors);
+    captures(vectors);
     logins(vectors);
     databases(vectors);
 }
@@ -127,10 +130,11 @@ fn found((descriptor, count): (u64, u32)) -> String {
 }
 
 /// The cases of document 01 and of its readings.
-const BATCHES: [&str; 9] = [
+const BATCHES: [&str; 10] = [
     "",
     "040000",
     "00000000",
+    "03000000",
     "05000000",
     "040000002000410020007F",
     "0400000041003DD800",
@@ -138,8 +142,16 @@ const BATCHES: [&str; 9] = [
     "0400000020002000",
     "0400000020000900FF",
 ];
-const TRANSACTIONS: [&str; 7] =
-    ["", "040000", "00000000", "0300000005", "040000000500", "0400000005", "FFFFFFFF0500"];
+const TRANSACTIONS: [&str; 8] = [
+    "",
+    "040000",
+    "00000000",
+    "03000000",
+    "0300000005",
+    "040000000500",
+    "0400000005",
+    "FFFFFFFF0500",
+];
 const DESCRIPTORS: [&str; 7] = [
     "16000000120000000200010203040506070811121314",
     "17000000120000000200010203040506070811121314",
@@ -156,6 +168,35 @@ const TOKEN_MESSAGES: [&str; 6] = [
     "05000000000000004142",
     "06000000010000004142",
     "FFFFFFFFFFFFFFFF",
+];
+
+/// Captures with as many slots as they have marks, with more and with fewer.
+fn captures(vectors: Vectors) {
+    let mut random = vectors.random("slots");
+    for capture in vectors.inputs("capture", bytes_of(&CAPTURES), random_capture) {
+        let marks = marks(&capture);
+        let count = marks.as_ref().map_or(0, Vec::len);
+        let lent = random.pick(&[count, count, count + 1, count + 20, count.saturating_sub(1), 0]);
+        let answer = match marks {
+            Ok(_) if lent < count => Err(SHORT_BUFFER),
+            Ok(marks) => Ok(joined(&[&[count as u64], &marks[..]].concat())),
+            Err(number) => Err(number),
+        };
+        print_line("capture_marks", &[lent.to_string(), packed(&capture)], &words(answer));
+    }
+}
+
+/// The cases of document 02, 2026-05.
+const CAPTURES: [&str; 9] = [
+    "",
+    "04000000210000000000",
+    "030000002100000000",
+    "0400000021000400000004000000210003000000",
+    "0400000021000000000000",
+    "04000000210000000000000000002200",
+    "010000002200",
+    "0400000021000000000104000000210003000001",
+    "0500000021000200000041000000002100060000002100010000000000030000002100000000",
 ];
 
 fn any_login(random: &mut Random) -> Vec<u8> {

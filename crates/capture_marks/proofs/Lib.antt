@@ -1,0 +1,5 @@
+pub mod Turns
+pub mod Marking
+pub mod Answers
+pub mod Exactly
+pub mod Worked

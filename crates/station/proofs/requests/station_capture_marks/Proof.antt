@@ -1,0 +1,58 @@
+-- `station::requests::station_capture_marks` meets its contract. Assumes nothing.
+use mathlib.Core.Path.{_≡_, sym, _∙_}
+use native.Mathlib.Omega.{arith}
+use denote.Ref.{now}
+use Rattle.station.proofs.Captures.{count-in, marks-told, marks-denied}
+use borrow.Author.Needs.{needs}
+use Rattle.station.proofs.requests.station_capture_marks.Statement.{statement}
+use Rattle.station.proofs.requests.station_capture_marks.Tie as tie
+
+marks-requires : tie.Need-marks-requires
+marks-requires c κs = search needs
+
+enum-known-count : tie.Need-enum-known-count
+enum-known-count c = search needs
+
+cast-result : tie.Need-cast-result
+cast-result c =
+    let m = c .before .before .before .before .before in
+    let a = m .before .before .before .before .args in
+    omega (arith, count-in (now (a .capture)) (now (a .out)) (sym (m .marks .ensures .0) ∙ c .before .count .given .1))
+
+enum-known-number : tie.Need-enum-known-number
+enum-known-number c = search needs
+
+refused-requires : tie.Need-refused-requires
+refused-requires c κs = search needs
+
+same-length : tie.Need-same-length
+same-length c = search needs
+
+returns : tie.Need-returns
+returns c =
+    let m = c .before .before .before .before .before in
+    let a = m .before .before .before .before .args in
+    marks-told (now (a .capture)) (now (a .out)) (m .marks .ensures .1) (sym (m .marks .ensures .0) ∙ c .before .count .given .1) (omega arith)
+
+same-length-2 : tie.Need-same-length-2
+same-length-2 c = search needs
+
+returns-2 : tie.Need-returns-2
+returns-2 c =
+    let m = c .before .before .before .before .before .before in
+    let a = m .before .before .before .before .args in
+    marks-denied (now (a .capture)) (now (a .out)) (m .marks .ensures .1) (sym (m .marks .ensures .0) ∙ c .before .before .number .given .1) (c .refused .ok) (c .refused .ensures)
+
+pub station-capture-marks-spec : {M : Type 1} → statement M
+station-capture-marks-spec =
+    tie.close
+    (tie.spec
+    marks-requires
+    enum-known-count
+    cast-result
+    enum-known-number
+    refused-requires
+    same-length
+    returns
+    same-length-2
+    returns-2)
