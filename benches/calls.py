@@ -17,6 +17,7 @@ EXPORTS = {
     "login": "station_parse_login7",
     "result": "station_build_query_results",
     "rpc": "station_parse_rpc_request",
+    "capture": "station_capture_marks",
 }
 HEADS = ["case", "input", "reply", "ours", "Rust", "ours/Rust", "ours µs", "Rust µs", "ours/Rust", "ours/byte",
          "Rust/byte"]

@@ -5,8 +5,11 @@
 //! the bytes of its answer and the answer's sum. `bench CASE time` runs the call on both sides in
 //! turn, many times, and prints the nanoseconds of ours and of the Rust's; ours is `-` where the
 //! library does not export it. `bench steps` reads the packet on standard input by `station_step`,
-//! `bench rpc NUMBER` the procedure call there, with its parameter of a number.
+//! `bench rpc NUMBER` the procedure call there, with its parameter of a number, `bench capture` the
+//! capture there.
 
+#[cfg(feature = "capture")]
+mod captures;
 mod cases;
 #[cfg(feature = "rpc")]
 mod procedures;
@@ -46,7 +49,8 @@ use cases::{Case, Outcome, Side, cases};
 use region::Measure;
 use std::process::ExitCode;
 
-const USAGE: &str = "bench list\nbench CASE ours|rust|time\nbench steps\nbench rpc NUMBER";
+const USAGE: &str =
+    "bench list\nbench CASE ours|rust|time\nbench steps\nbench rpc NUMBER\nbench capture";
 
 /// How often the sides take turns. A time is the least of so many medians: whatever else the machine
 /// does only adds to it.
@@ -64,6 +68,8 @@ fn main() -> ExitCode {
         ["steps"] => steps::count(),
         #[cfg(feature = "rpc")]
         ["rpc", number] => procedures::count(number),
+        #[cfg(feature = "capture")]
+        ["capture"] => captures::count(),
         [case, "ours"] => count(case, Side::Ours),
         [case, "rust"] => count(case, Side::Rust),
         [case, "time"] => time(case),

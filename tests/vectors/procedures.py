@@ -1,6 +1,7 @@
 """Stored procedure calls for the list, with the answers of the second reader (tests/rpc/reading.py).
 
-Its calls of every kind, each asked for parameter 0 and for another number; calls that clients sent; calls that are damaged.
+Headers lengths that cannot be; calls of every kind, each asked for parameter 0 and for another number; calls that clients
+sent; calls that are damaged.
 """
 import importlib.util
 import pathlib
@@ -27,6 +28,8 @@ def cases(source):
     fixed = [b"".join(pieces) for _, pieces in building.fixed()]
     sent = list(dict.fromkeys(call.body for call in stored.captured() if len(call.body) <= LONGEST))
     yield answered(0, b"")
+    for length in range(4):
+        yield answered(0, bytes([length, 0, 0, 0]) + fixed[0][4:])
     for body in fixed:
         yield answered(0, body)
         yield answered(another(source, body), body)

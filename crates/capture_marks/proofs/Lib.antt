@@ -1,4 +1,5 @@
 pub mod Turns
+pub mod Counting
 pub mod Marking
 pub mod Answers
 pub mod Exactly

@@ -1,30 +1,15 @@
 -- What the record at a place of a capture says of its refusal and of its marks. Assumes nothing.
-use Prim.Native.Nat.{ℕ, suc, _+_, _-_, _≤_}
-use mathlib.Core.Path.{_≡_, refl, sym, ap, _∙_}
-use mathlib.Core.Bool.{Bool, true, false, cond}
+use Prim.Native.Nat.{ℕ, suc, _+_, _-_}
+use mathlib.Core.Path.{_≡_, refl, ap}
 use mathlib.Core.List.{List, [], _∷_, _++_}
-use native.Mathlib.Omega.{arith}
 use native.Mathlib.Nat.{add-sub-cancel-left}
-use lib.Dec.{eqb}
 use lib.ListN.{length, take, drop}
 use borrow.Author.Tests.{eq-eqb, ne-eqb}
 use Rattle.wire.proofs.Cases.{by-test}
 use Rattle.script.specs.Records.{Item, item, cut, records, recordAt}
 use Rattle.script.specs.declared.Found.the-variants.{Record, Cut, End}
 use Rattle.script.proofs.Walk.{turn, cuts, ends}
-use Rattle.capture_marks.specs.Marks.{isMarked, captureFault, markOf, marksFrom, marksOf, countedOf}
-use Rattle.capture_marks.specs.declared.Marked.the-variants.{Count, Refused}
-
--- ---- the capture's answer, by its refusal
-
-module _ (s : List ℕ) where
-  pub counted-bad : (f : ℕ) → (f ≡ 0 → ⊥) → captureFault (records s) ≡ f → Refused f ≡ countedOf s
-  unfolding countedOf
-  counted-bad f h e = rw (e, ne-eqb f 0 h)
-
-  pub counted-good : {n : ℕ} → captureFault (records s) ≡ 0 → n ≡ length (marksOf s) → Count n ≡ countedOf s
-  unfolding countedOf
-  counted-good e q = rw (e, q)
+use Rattle.capture_marks.specs.Marks.{isMarked, captureFault, markOf, marksFrom}
 
 -- ---- how many marks there are does not depend on the first number
 
@@ -68,12 +53,3 @@ module _ (s : List ℕ) (at : ℕ) where
     pub marks-next : (i : ℕ) → marksFrom i (records (drop at s)) ≡ markOf i (take (st + n - st) (drop st s)) ++ marksFrom (suc i) (records (drop (st + n) s))
     unfolding marksFrom
     marks-next i = rw (add-sub-cancel-left st n, turn s at e)
-
-    -- so many marks are there from the place on, with whether its body is marked
-    pub count-next : (b : Bool) → isMarked (take (st + n - st) (drop st s)) ≡ b
-        → length (marksFrom 0 (records (drop at s))) ≡ cond b 1 0 + length (marksFrom 0 (records (drop (st + n) s)))
-    count-next b t = ap length (marks-next 0) ∙ rw (t, ← same-count 1 0 (records (drop (st + n) s))) (go b)
-      where
-        go : (b : Bool) → length (cond b (0 ∷ []) [] ++ marksFrom 1 (records (drop (st + n) s))) ≡ cond b 1 0 + length (marksFrom 1 (records (drop (st + n) s)))
-        go true = omega arith
-        go false = omega arith

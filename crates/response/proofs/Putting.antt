@@ -1,6 +1,6 @@
 -- A turn of the writer over a list's records. Assumes nothing.
 use Prim.Native.Nat.{ℕ, _+_, _-_, _≤_, min}
-use mathlib.Core.Path.{_≡_, refl, sym, ap, _∙_}
+use mathlib.Core.Path.{_≡_, refl, ap, _∙_}
 use mathlib.Core.List.{List, [], _∷_}
 use native.Mathlib.Nat.{add-sub-cancel-left}
 use native.Mathlib.Omega.{arith}

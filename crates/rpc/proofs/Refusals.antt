@@ -14,7 +14,7 @@ use Rattle.request.specs.declared.Headers.the-variants.{Length, Short, TooSmall
 use Rattle.payload.specs.Places.{bodySource, Source, Place, Read, whole, refused, must, then}
 use Rattle.rpc.specs.declared.Rpc.the-variants as rpc
 use Rattle.rpc.specs.Rpc.{renamed, inMetadata, valueAt, parameterAt, parametersAt, Sent, callAt, callAfter, told, rpcOf}
-use Rattle.rpc.specs.Refusals.{CallNumber, OwnNumber, RefusedByOwn, CallTooSmall}
+use Rattle.rpc.specs.Refusals.{CallNumber, RefusedByOwn, CallTooSmall}
 
 -- what is read, or is refused with a number of the call itself
 data Own {A : Type 0} : Read A → Type 0 where

@@ -1,27 +1,21 @@
--- `capture_marks::count_marks` meets its contract. The loop's invariant: the records from the place on decide the refusal, and with
--- those that were counted they have as many marks as the capture. Assumes nothing.
+-- `capture_marks::count_marks` meets its contract. The loop's invariant is `Counting`. Assumes nothing.
 use Prim.Native.Nat.{ℕ, _+_, _-_, _≤_}
-use mathlib.Core.Path.{_≡_, refl, sym, ap, _∙_}
-use mathlib.Core.List.{List}
+use mathlib.Core.Path.{_≡_, refl, sym, _∙_}
 use mathlib.Core.Bool.{Bool, true, false, cond}
-use lib.ListN.{length, drop}
+use mathlib.Core.List.{List}
+use lib.ListN.{length}
 use native.Mathlib.Omega.{arith}
 use borrow.Author.Needs.{needs}
 use denote.Ref.{now}
-use Rattle.script.specs.Records.{records, recordAt}
+use Rattle.script.specs.Records.{recordAt}
 use Rattle.script.specs.declared.Found.the-variants.{Record}
 use Rattle.script.proofs.Walk
-use Rattle.capture_marks.specs.Marks.{captureFault, marksFrom, marksOf}
-use Rattle.capture_marks.proofs.Turns.{counted-bad, counted-good, fault-cut, fault-end, fault-kind, fault-next, marks-end, count-next}
+use Rattle.capture_marks.proofs.Counting.{Counting, counting-start, counting-cut, counting-end, counting-kind, counting-next}
 use Rattle.capture_marks.proofs.count_marks.Statement.{statement}
 use Rattle.capture_marks.proofs.count_marks.Tie as tie
 
 abbrev Inv-loop : tie.InvT-loop
-Inv-loop capture at₀ count₀ at count =
-    (at ≤ length capture)
-    × (count ≤ at)
-    × (captureFault (records (drop at capture)) ≡ captureFault (records capture))
-    × (count + length (marksFrom 0 (records (drop at capture))) ≡ length (marksOf capture))
+Inv-loop capture at₀ count₀ at count = Counting capture at count
 
 abbrev μ-loop : tie.MeasureT-loop
 μ-loop capture at₀ count₀ at count = length capture - at
@@ -46,19 +40,8 @@ module _ (c : tie.After-kind Inv-loop μ-loop) where
   lies : (start ≡ place + 6) × (start + size ≤ length s)
   lies = Walk.lies s place found
 
--- the record after one that was tested
-module _ (c : tie.After-is-marked Inv-loop μ-loop) where
-  abbrev here : tie.After-kind Inv-loop μ-loop
-  here = c .before .before .before .before
-
-  -- the marks from the place on, with whether its body is marked
-  counted : (b : Bool) → c .is-marked .result ≡ b
-      → length (marksFrom 0 (records (drop (place here) (s here)))) ≡ cond b 1 0 + length (marksFrom 0 (records (drop (start here + size here) (s here))))
-  counted b t = count-next (s here) (place here) (found here) b (sym (c .is-marked .ensures) ∙ t)
-
 loop-holds : tie.Need-loop-holds Inv-loop μ-loop
-unfolding marksOf
-loop-holds c = (search needs, search needs, refl, omega arith)
+loop-holds c = counting-start _
 
 record-at-requires : tie.Need-record-at-requires Inv-loop μ-loop
 record-at-requires c κs = search needs
@@ -67,28 +50,19 @@ enum-told : tie.Need-enum-told Inv-loop μ-loop
 enum-told c = search needs
 
 returns : tie.Need-returns Inv-loop μ-loop
-returns c =
-    let r = c .before .before in
-    let i = r .before .loop .inv in
-    counted-bad _ 11 (λ z. omega arith) (sym (i .2) ∙ fault-cut _ _ (sym (r .record-at .ensures) ∙ c .enum-told .given .1))
+returns c = let r = c .before .before in counting-cut _ _ _ (r .before .loop .inv) (sym (r .record-at .ensures) ∙ c .enum-told .given .1)
 
 enum-told-2 : tie.Need-enum-told-2 Inv-loop μ-loop
 enum-told-2 c = search needs
 
 returns-2 : tie.Need-returns-2 Inv-loop μ-loop
-returns-2 c =
-    let r = c .before .before in
-    let i = r .before .loop .inv in
-    let e = sym (r .record-at .ensures) ∙ c .enum-told2 .given .1 in
-    counted-good _ (sym (i .2) ∙ fault-end _ _ e) (omega (arith, i .3, ap length (marks-end _ _ 0 e)))
+returns-2 c = let r = c .before .before in counting-end _ _ _ (r .before .loop .inv) (sym (r .record-at .ensures) ∙ c .enum-told2 .given .1)
 
 enum-known-kind : tie.Need-enum-known-kind Inv-loop μ-loop
 enum-known-kind c = search needs
 
 returns-3 : tie.Need-returns-3 Inv-loop μ-loop
-returns-3 c =
-    let k = c .before .before in
-    counted-bad _ 12 (λ z. omega arith) (sym (k .before .before .before .loop .inv .2) ∙ fault-kind _ _ (found k) (c .if1 .taken))
+returns-3 c = let k = c .before .before in counting-kind _ _ _ (k .before .before .before .loop .inv) (found k) (c .if1 .taken)
 
 add-at : tie.Need-add-at Inv-loop μ-loop
 add-at c = omega (arith, lies (c .before .before))
@@ -108,33 +82,25 @@ is-marked-requires c κs = search needs
 add-count : tie.Need-add-count Inv-loop μ-loop
 add-count c = search needs
 
+-- the next place, with one more or not
+module _ (c : tie.After-is-marked Inv-loop μ-loop) where
+  abbrev here : tie.After-kind Inv-loop μ-loop
+  here = c .before .before .before .before
+
+  next : (b : Bool) → c .is-marked .result ≡ b → {to : ℕ} → to ≡ here .before .before .before .loop .count + cond b 1 0 → Counting (s here) (start here + size here) to
+  next b t f = counting-next _ _ _ (here .before .before .before .loop .inv) (found here) (c .before .before .if1 .left) b (sym (c .is-marked .ensures) ∙ t) f
+
 loop-less : tie.Need-loop-less Inv-loop μ-loop
 loop-less c = omega (arith, lies (here (c .before)))
 
 loop-again : tie.Need-loop-again Inv-loop μ-loop
-loop-again c =
-    let k = here (c .before) in
-    let i = k .before .before .before .loop .inv in
-    let l = lies k in (
-      l .1,
-      omega (arith, l, i .1),
-      sym (fault-next _ _ (found k) (c .before .before .before .if1 .left)) ∙ i .2,
-      omega (arith, i .3, counted (c .before) true (c .if2 .taken)),
-    )
+loop-again c = next (c .before) true (c .if2 .taken) refl
 
 loop-less-2 : tie.Need-loop-less-2 Inv-loop μ-loop
 loop-less-2 c = omega (arith, lies (here (c .before)))
 
 loop-again-2 : tie.Need-loop-again-2 Inv-loop μ-loop
-loop-again-2 c =
-    let k = here (c .before) in
-    let i = k .before .before .before .loop .inv in
-    let l = lies k in (
-      l .1,
-      omega (arith, l, i .1),
-      sym (fault-next _ _ (found k) (c .before .before .before .if1 .left)) ∙ i .2,
-      omega (arith, i .3, counted (c .before) false (c .if2 .left)),
-    )
+loop-again-2 c = next (c .before) false (c .if2 .left) (omega arith)
 
 pub count-marks-spec : {M : Type 1} → statement M
 count-marks-spec =

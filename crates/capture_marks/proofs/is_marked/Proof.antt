@@ -1,5 +1,5 @@
 -- `capture_marks::is_marked` meets its contract. Assumes nothing.
-use mathlib.Core.Path.{_≡_, refl, sym, _∙_}
+use mathlib.Core.Path.{sym, _∙_}
 use Rattle.capture_marks.specs.Marks.{isMarked}
 use borrow.Author.Needs.{needs}
 use Rattle.capture_marks.proofs.is_marked.Statement.{statement}

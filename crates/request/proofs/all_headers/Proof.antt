@@ -1,6 +1,7 @@
 -- `request::all_headers` meets its contract. Assumes nothing.
-use mathlib.Core.Path.{_≡_, sym}
+use mathlib.Core.Path.{sym, ap, _∙_}
 use native.Mathlib.Omega.{arith}
+use Rattle.request.specs.declared.Headers.the-variants.{Length}
 use Rattle.request.proofs.Blocks.{is-short, is-small, is-past, is-length}
 use borrow.Author.Needs.{needs}
 use Rattle.request.proofs.all_headers.Statement.{statement}
@@ -22,7 +23,7 @@ returns-3 : tie.Need-returns-3
 returns-3 c = sym (is-past _ (omega arith) (omega arith) (omega arith))
 
 returns-4 : tie.Need-returns-4
-returns-4 c = rw (c .before .before .get-u32-le .ensures) (sym (is-length _ (omega arith) (omega arith) (omega arith)))
+returns-4 c = ap Length (c .before .before .get-u32-le .ensures) ∙ sym (is-length _ (omega arith) (omega arith) (omega arith))
 
 pub all-headers-spec : {M : Type 1} → statement M
 all-headers-spec = tie.close (tie.spec returns get-u32-le-requires cast-len returns-2 returns-3 returns-4)

@@ -1,5 +1,5 @@
 -- `station::requests::station_capture_marks` meets its contract. Assumes nothing.
-use mathlib.Core.Path.{_≡_, sym, _∙_}
+use mathlib.Core.Path.{sym, _∙_}
 use native.Mathlib.Omega.{arith}
 use denote.Ref.{now}
 use Rattle.station.proofs.Captures.{count-in, marks-told, marks-denied}
