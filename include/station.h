@@ -158,7 +158,7 @@ int64_t station_parse_sql_batch(const uint8_t *body, size_t body_len, uint64_t *
 
 /* The type of a transaction manager request.
  * 0 or more: the type.
- * -35 a headers length of 0 to 3, -10 a request without a type.
+ * -10 a request under 4 bytes, -35 a headers length of 0 to 3, -10 a request without a type.
  */
 int64_t station_parse_transaction_manager_request(const uint8_t *body, size_t body_len);
 
@@ -212,8 +212,9 @@ int64_t station_parse_fedauth_token(const uint8_t *payload, size_t payload_len, 
  * ask for 0, 1, .. until FOUND is 0. Of sp_executesql the statement is the value's bytes of parameter 0, as they stand:
  * of a Max value its chunks, from the first length through the zero one; of null no bytes.
  * 0: the call's slots.
- * -35 a headers length of 0 to 3, -29 headers, procedure or flags cut, -30 a parameter cut, a wrong length in its
- * value, or sp_executesql without a parameter, -31 a type that is not read, an encrypted parameter, or a second call.
+ * -29 a request under 4 bytes, -35 a headers length of 0 to 3, -29 headers, procedure or flags cut, -30 a parameter
+ * cut, a wrong length in its value, or sp_executesql without a parameter, -31 a type that is not read, an encrypted
+ * parameter, or a second call.
  */
 int64_t station_parse_rpc_request(const uint8_t *body, size_t body_len, uint64_t number, uint64_t *out,
                                   size_t out_len);

@@ -108,7 +108,7 @@ class Listed:
             yield f"{call} o:{size}", refused or TOO_SHORT
 
     def capture(self, arguments, answer):
-        """As many slots are lent as the line says; and where these are enough, as many as there are marks, more and fewer."""
+        """As many slots are lent as the line says; where these are enough also as many as there are marks, more and fewer."""
         lent, call, words = arguments[0], f"capture_marks i:{expanded(arguments[1])}", answer.split()
         if words[0] == "refused":
             yield f"{call} o:{lent}", f"-{words[1]}"
