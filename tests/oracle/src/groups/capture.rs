@@ -5,6 +5,7 @@ use crate::answers::capture::marks;
 use crate::compare::{Check, Expected};
 use crate::hex::hex;
 use crate::inputs::capture::{random_body, random_capture, random_records};
+use crate::inputs::request::small_bodies;
 use crate::random::Random;
 use crate::refusal::SHORT_BUFFER;
 use crate::script::records::{FEATURE, REQUEST_BODY, Record, SET, written};
@@ -78,15 +79,10 @@ fn every_short_capture(check: &mut Check) {
 
 /// Bodies of up to five bytes that are 00 to 05 or FF, alone and as the second of three records.
 fn every_small_body(check: &mut Check) {
-    const BYTES: [u8; 7] = [0, 1, 2, 3, 4, 5, 0xFF];
-    for length in 0..=5 {
-        for number in 0..7usize.pow(length) {
-            let body: Vec<u8> =
-                (0..length).map(|place| BYTES[number / 7usize.pow(place) % 7]).collect();
-            capture(check, &written(&[Record::new(REQUEST_BODY, body.clone())]));
-            let three = [vec![3, 0, 0, 0, 9], body, vec![0; 4]];
-            capture(check, &written(&three.map(|body| Record::new(REQUEST_BODY, body))));
-        }
+    for body in (0..=5).flat_map(small_bodies) {
+        capture(check, &written(&[Record::new(REQUEST_BODY, body.clone())]));
+        let three = [vec![3, 0, 0, 0, 9], body, vec![0; 4]];
+        capture(check, &written(&three.map(|body| Record::new(REQUEST_BODY, body))));
     }
 }
 

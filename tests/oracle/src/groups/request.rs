@@ -100,12 +100,8 @@ impl Requests {
 
     /// All bodies of four and five bytes that are 00 to 05 or FF.
     fn every_small_body(&mut self) {
-        const BYTES: [u8; 7] = [0, 1, 2, 3, 4, 5, 0xFF];
-        for length in [4, 5] {
-            for number in 0..7usize.pow(length) {
-                let digit = |place| BYTES[number / 7usize.pow(place) % 7];
-                self.all(&(0..length).map(digit).collect::<Vec<u8>>());
-            }
+        for body in [4, 5].into_iter().flat_map(small_bodies) {
+            self.all(&body);
         }
     }
 

@@ -4,6 +4,14 @@ use super::damaged;
 use crate::random::Random;
 use crate::utf16;
 
+/// All bodies of a length whose bytes are 00 to 05 or FF.
+pub fn small_bodies(length: u32) -> impl Iterator<Item = Vec<u8>> {
+    const BYTES: [u8; 7] = [0, 1, 2, 3, 4, 5, 0xFF];
+    let body =
+        move |number| (0..length).map(|place| BYTES[number / 7usize.pow(place) % 7]).collect();
+    (0..7usize.pow(length)).map(body)
+}
+
 /// A batch with headers, blanks at both ends and at times an odd last byte; often damaged.
 pub fn random_batch(random: &mut Random) -> Vec<u8> {
     let mut body = random_headers(random);

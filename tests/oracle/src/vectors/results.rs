@@ -79,7 +79,7 @@ fn in_packets(vectors: Vectors) {
 fn room_in_packets(vectors: Vectors) {
     let name = "room_in_packets";
     let mut random = vectors.random(name);
-    let mut print = |script: &[u8], size: usize| {
+    let print = |script: &[u8], size: usize| {
         let answer = reply_in_packets(script, size).map(|packets| packets.len());
         print_line(name, &[size.to_string(), packed(script)], &words(answer));
     };
