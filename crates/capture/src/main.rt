@@ -11,7 +11,7 @@ use wire::Part;
 const MOST: usize = 65536;
 // A buffer for it, with a byte more to tell a capture that is longer.
 const ROOM: usize = 65537;
-// The most marks of a capture: a marked record has 6 bytes of its own and 4 of its body, or more.
+// The most marks of a capture: a tenth of its bytes (capture_marks/specs/Enough).
 const MARKS: usize = 6553;
 // The most bytes of their lines: a record's number is under 10,923, and its line has 6 bytes at most.
 const LINES: usize = 39318;

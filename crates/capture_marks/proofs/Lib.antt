@@ -3,4 +3,5 @@ pub mod Counting
 pub mod Marking
 pub mod Answers
 pub mod Exactly
+pub mod Enough
 pub mod Worked

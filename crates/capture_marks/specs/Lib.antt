@@ -1,3 +1,4 @@
 pub mod Marks
 pub mod Exactly
+pub mod Enough
 pub mod Worked

@@ -31,7 +31,7 @@ pub fn marks(capture: &[u8], out: &mut [u64]) -> Marked
             if out.len() < count {
                 return Marked::Refused(BUFFER_TOO_SHORT);
             }
-            put_marks(capture, out);
+            put_marks(capture, out, count);
             Marked::Count(count)
         }
     }
@@ -76,15 +76,17 @@ fn count_marks(capture: &[u8]) -> Marked
     }
 }
 
-// The numbers of the marked records, from the front of the slots.
-fn put_marks(capture: &[u8], out: &mut [u64])
-    requires { ⌜ length (marksOf (now capture)) ≤ length (now out) ⌝ }
+// The numbers of the marked records, of which there are so many, from the front of the slots. Records after the last of
+// them are not looked at again.
+fn put_marks(capture: &[u8], out: &mut [u64], marked: usize)
+    requires { ⌜ marked ≡ length (marksOf (now capture)) ⌝ }
+    requires { ⌜ marked ≤ length (now out) ⌝ }
     ensures { λ _. ⌜ now (out .exit) ≡ overwrite (now (out .entry)) 0 (marksOf (now (capture .entry))) ⌝ }
 {
     let mut at: usize = 0;
     let mut number: u64 = 0;
     let mut count: usize = 0;
-    loop {
+    while count < marked {
         match script::record_at(capture, at) {
             Found::Cut | Found::End => {
                 return;

@@ -1,4 +1,5 @@
--- The marks of a capture in lent slots: what `marks` answers and leaves is what the export promises. Assumes nothing.
+-- The marks of a capture in lent slots: what `marks` answers and leaves is what the export promises, and how many slots are enough.
+-- Assumes nothing.
 use Prim.Native.Nat.{ℕ, _^_, _<_, _≤_}
 use mathlib.Core.Path.{_≡_, refl, _∙_}
 use mathlib.Core.List.{List}
@@ -17,8 +18,9 @@ use Rattle.script.specs.Records.{records}
 use Rattle.capture_marks.specs.Marks.{captureFault, marksOf, countedOf, marksIn, slotsAfter}
 use Rattle.capture_marks.specs.declared.Marked.{Marked}
 use Rattle.capture_marks.specs.declared.Marked.the-variants.{Count, Refused}
+use Rattle.capture_marks.proofs.Enough.{ten-bytes-each}
 use Rattle.station.specs.Answer.{answers, refuses, numberOf, lent, filled, answerOf, slotsOf}
-use Rattle.station.specs.Requests.{captureCall}
+use Rattle.station.specs.Requests.{captureCall, TenthEnough}
 use Rattle.station.proofs.Ends.{Ended, denied}
 
 module _ (s out : List ℕ) where
@@ -54,3 +56,10 @@ module _ (s out : List ℕ) where
         → Ended (captureCall s) out left (toZ w64 (ofZ w64 r))
     unfolding answerOf slotsOf filled
     marks-denied e fits d = let q = said-of e in rw (q .0) (denied fits d refl, w ∙ q .1)
+
+pub tenth-enough : TenthEnough
+unfolding answerOf captureCall countedOf lent
+tenth-enough s out h =
+    by-test (eqb (captureFault (records s)) 0)
+    (λ e. rw (e, le-ltb (length out) (length (marksOf s)) (omega (arith, ten-bytes-each s, h))))
+    (λ e. rw e)

@@ -1,6 +1,8 @@
 -- What the exports that read requests, and captures of them, answer. Rests on the definitions of `request` and `capture_marks`.
-use Prim.Native.Nat.{ℕ}
+use Prim.Native.Nat.{ℕ, _/_, _≤_}
+use mathlib.Core.Path.{_≡_}
 use mathlib.Core.List.{List, [], _∷_}
+use lib.ListN.{length}
 use Rattle.request.specs.Batch.{sqlBatch}
 use Rattle.request.specs.Transaction.{transactionRequest, transactionDescriptor}
 use Rattle.request.specs.FedAuth.{fedAuthToken}
@@ -15,7 +17,7 @@ use Rattle.request.specs.declared.FedAuthToken.the-variants.{Bytes, Refused as 
 use Rattle.capture_marks.specs.Marks.{marksOf, countedOf}
 use Rattle.capture_marks.specs.declared.Marked.{Marked}
 use Rattle.capture_marks.specs.declared.Marked.the-variants.{Count, Refused as CaptureRefused}
-use Rattle.station.specs.Answer.{Outcome, answers, answersPart, refuses}
+use Rattle.station.specs.Answer.{Outcome, answers, answersPart, refuses, numberOf, answerOf}
 
 -- a batch's text as a part of the body
 abbrev pub batchOutcome : Batch → Outcome
@@ -56,3 +58,7 @@ captureOutcome ms (CaptureRefused n) = refuses n
 
 unfoldable pub captureCall : List ℕ → Outcome
 captureCall s = captureOutcome (marksOf s) (countedOf s)
+
+-- a tenth of a capture's bytes are slots enough: the answer is the capture's own, and -20 never
+abbrev pub TenthEnough : Type 0
+TenthEnough = (s out : List ℕ) → length s / 10 ≤ length out → answerOf (captureCall s) out ≡ numberOf (captureCall s)

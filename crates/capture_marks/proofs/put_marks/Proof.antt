@@ -10,23 +10,26 @@ use Rattle.script.specs.Records.{recordAt}
 use Rattle.script.specs.declared.Found.the-variants.{Record}
 use Rattle.script.proofs.Walk
 use Rattle.script.proofs.Stops.{stops}
-use Rattle.capture_marks.proofs.Marking.{Marking, marking-start, marking-cut, marking-end, marking-room, marking-next}
+use Rattle.capture_marks.proofs.Marking.{Marking, marking-start, marking-all, marking-cut, marking-end, marking-room, marking-next}
 use Rattle.capture_marks.proofs.put_marks.Statement.{statement}
 use Rattle.capture_marks.proofs.put_marks.Tie as tie
 
 abbrev Inv-loop : tie.InvT-loop
-Inv-loop capture out₀ at₀ number₀ count₀ out at number count = Marking capture out₀ at number count out
+Inv-loop capture out₀ marked at₀ number₀ count₀ out at number count = Marking capture out₀ at number count out
 
 abbrev μ-loop : tie.MeasureT-loop
-μ-loop capture out₀ at₀ number₀ count₀ out at number count = length capture - at
+μ-loop capture out₀ marked at₀ number₀ count₀ out at number count = length capture - at
 
 -- the record at the place, and where it lies
 module _ (c : tie.After-start Inv-loop μ-loop) where
+  abbrev turn : tie.At-loop Inv-loop μ-loop
+  turn = c .before .before .before .before
+
   abbrev s : List ℕ
-  s = now (c .before .before .before .before .before .before .args .capture)
+  s = now (turn .before .before .before .args .capture)
 
   abbrev place : ℕ
-  place = c .before .before .before .loop .at
+  place = turn .loop .at
 
   abbrev start : ℕ
   start = c .start .given .0 .1 .0
@@ -41,7 +44,7 @@ module _ (c : tie.After-start Inv-loop μ-loop) where
   lies = Walk.lies s place found
 
 loop-holds : tie.Need-loop-holds Inv-loop μ-loop
-loop-holds c = marking-start _ _ (c .before .before .pre)
+loop-holds c = marking-start _ _
 
 record-at-requires : tie.Need-record-at-requires Inv-loop μ-loop
 record-at-requires c κs = search needs
@@ -51,7 +54,7 @@ same-length c = search needs
 
 returns : tie.Need-returns Inv-loop μ-loop
 returns c = let r = c .before in
-    let m = r .before .loop .inv in
+    let m = r .before .before .loop .inv in
     stops (r .record-at .ensures) (c .match .keys1) (marking-cut _ _ _ _ _ _ m) (marking-end _ _ _ _ _ _ m)
 
 enum-known-start : tie.Need-enum-known-start Inv-loop μ-loop
@@ -70,7 +73,9 @@ part-put-mark-end : tie.Need-part-put-mark-end Inv-loop μ-loop
 part-put-mark-end c = omega (arith, lies (c .before))
 
 put-mark-requires : tie.Need-put-mark-requires Inv-loop μ-loop
-put-mark-requires c κs = let r = c .before .before .before in marking-room _ _ _ _ _ _ (r .before .before .before .loop .inv) (found r)
+put-mark-requires c κs = let r = c .before .before .before in
+    let pre = turn r .before .before .before .pre in
+    marking-room _ _ _ _ _ _ (turn r .loop .inv) (found r) (omega (arith, pre))
 
 add-number : tie.Need-add-number Inv-loop μ-loop
 add-number c = search needs
@@ -81,7 +86,13 @@ loop-less c = omega (arith, lies (c .before .before .before .before .before .bef
 loop-again : tie.Need-loop-again Inv-loop μ-loop
 loop-again c = let r = c .before .before .before .before .before .before in
     let p = c .before .before .put-mark .ensures in
-    marking-next _ _ _ _ _ _ (r .before .before .before .loop .inv) (found r) (p .0) (p .1)
+    marking-next _ _ _ _ _ _ (turn r .loop .inv) (found r) (p .0) (p .1)
+
+same-length-2 : tie.Need-same-length-2 Inv-loop μ-loop
+same-length-2 c = search needs
+
+returns-2 : tie.Need-returns-2 Inv-loop μ-loop
+returns-2 c = let l = c .before in marking-all _ _ _ _ _ _ (l .loop .inv) (omega (arith, l .before .before .before .pre, c .loop-test .left))
 
 pub put-marks-spec : {M : Type 1} → statement M
 put-marks-spec =
@@ -101,4 +112,6 @@ put-marks-spec =
     put-mark-requires
     add-number
     loop-less
-    loop-again)
+    loop-again
+    same-length-2
+    returns-2)
