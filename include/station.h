@@ -30,7 +30,7 @@ extern "C" {
 
 /* The version of these calls (CHANGELOG.md). An answer that changes changes the version. */
 #define STATION_VERSION_MAJOR 4
-#define STATION_VERSION_MINOR 0
+#define STATION_VERSION_MINOR 1
 
 /* The most bytes of a reply, and of a reply in packets: a `buf` of so many is never too short. */
 #define STATION_MOST_REPLY 65535
@@ -361,7 +361,8 @@ int64_t station_room_in_packets(const uint8_t *script, size_t script_len, size_t
 #define STATION_MISFIT_CELL 3
 
 /* Whether a script fits: the reply of one that does is read back as exactly the script's tokens.
- * 0: it fits, and `out` may be empty. 1: the slots of a misfit.
+ * 0: it fits, and `out` may be empty. 1: the slots of its first misfit: by set; in a set the classification, then columns, then
+ * cells by row and column. In a row a wrong cell comes before a wrong count of cells. Of too many columns it is column 128.
  * -11 to -17 as above.
  */
 int64_t station_fit(const uint8_t *script, size_t script_len, uint64_t *out, size_t out_len);

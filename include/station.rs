@@ -9,7 +9,7 @@
 // call is unsafe, because nothing checks that a pointer is valid for the length that follows it.
 
 pub const STATION_VERSION_MAJOR: u32 = 4;
-pub const STATION_VERSION_MINOR: u32 = 0;
+pub const STATION_VERSION_MINOR: u32 = 1;
 pub const STATION_MOST_REPLY: usize = 65535;
 pub const STATION_MOST_PACKETS: usize = 66575;
 

@@ -1,5 +1,5 @@
-"""What a text that `show` wrote means: its script's refusal, 11 to 14, the tokens that it emits, and the line at fault
-(document 01).
+"""What a text that `show` wrote means: its script's refusal, 11 to 14, whether it fits, the tokens that it emits, and the
+line at fault (document 01; the first misfit, document 02).
 
 Reads the lines by itself, and rests on nothing of tools/script.py.
 """
@@ -30,6 +30,9 @@ CHUNKED = ("NVarCharMax", "VarCharMax", "VarBinaryMax")
 TYPES = {"TinyInt": ("26", 1, False), "SmallInt": ("26", 2, False), "Int": ("26", 4, False), "BigInt": ("26", 8, False),
          "NVarChar": ("E7", 8000, True), "NVarCharMax": ("E7", 65535, True), "VarCharMax": ("A7", 65535, True),
          "VarBinaryMax": ("A5", 65535, False)}
+MOST_COLUMNS, MOST_TEXT = 128, 8_000
+# Of each type the value beside its own name that goes with it.
+NULLS = {**dict.fromkeys(("TinyInt", "SmallInt", "Int", "BigInt"), "Null"), **dict.fromkeys(CHUNKED, "NVarCharMaxNull")}
 
 
 def items(line):
@@ -109,6 +112,49 @@ def misfit_place(lines, misfit):
     cells = places(lines, row, rows[int(rest[0]) + 1], "cell")
     has_columns = bool(places(lines, start, end, "column"))
     return cells[int(rest[1])] if has_columns and int(rest[1]) < len(cells) else row
+
+
+def wrong_column(place, words):
+    """Whether a column, counted from 0 in its set, is one too many or has a surrogate pair in its name."""
+    return place >= MOST_COLUMNS or any(ord(character) > 0xFFFF for character in json.loads(words[1]))
+
+
+def wrong_cell(types, place, words):
+    """Whether a cell, counted from 0 in its row, has no column or is not of its type."""
+    if place >= len(types) or words[0] not in (types[place], NULLS.get(types[place])):
+        return True
+    return words[0] == "NVarChar" and len(text(words[1])) > MOST_TEXT
+
+
+def fit(lines):
+    """What the fit check says of a script that is not refused: read from the top, it ends at the first misfit."""
+    records = [items(line) for line in lines]
+    names = [name for name, _ in records]
+    if "terminal error" in names[:[*names[1:], "set"].index("set") + 1]:
+        return "fits"
+    number, types, row, cells = -1, [], -1, None
+    for name, words in [*records, ("end", [])]:
+        if name not in ("cell", "chunk"):
+            if cells is not None and cells < len(types):
+                return f"misfit cell {number} {row} {cells}"
+            cells = None
+        if name == "set":
+            number, types, row = number + 1, [], -1
+            if words:
+                return f"misfit class {number}"
+        elif name == "column":
+            if wrong_column(len(types), words):
+                return f"misfit column {number} {len(types)}"
+            types.append(words[0])
+        elif name == "row":
+            row, cells = row + 1, 0
+            if not types:
+                return f"misfit cell {number} {row} 0"
+        elif name == "cell":
+            if wrong_cell(types, cells, words):
+                return f"misfit cell {number} {row} {cells}"
+            cells += 1
+    return "fits"
 
 
 def digits(held):

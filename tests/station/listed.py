@@ -140,9 +140,8 @@ class Listed:
             for size in (*enough, *few):
                 yield f"fit i:{script} o:{size}", told
             return
-        told = {f"1 {slots(misfit(words.split()))}" for words in answer.split(",")}
         for size in enough:
-            yield f"fit i:{script} o:{size}", lambda said: said in told
+            yield f"fit i:{script} o:{size}", f"1 {slots(misfit(answer.split()))}"
         for size in few:
             yield f"fit i:{script} o:{size}", TOO_SHORT
 

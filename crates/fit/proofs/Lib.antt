@@ -1,3 +1,7 @@
+pub mod Order
+pub mod First
+pub mod TooMany
+pub mod Worked
 pub mod BySets
 pub mod Skip
 pub mod RowTurns

@@ -1,3 +1,5 @@
 pub mod Misfits
+pub mod First
+pub mod Worked
 pub mod Records
 pub mod Walks

@@ -94,7 +94,7 @@ unfoldable pub misfits : List ScriptSet → List Misfit
 misfits [] = []
 misfits (s ∷ ss) = unless (s .terminal) (setsMisfits 0 (s ∷ ss))
 
--- yes where there is none, else no with the first
+-- yes where there is none, else no with the first of the list, which is the first in document 02's order (First)
 abbrev pub firstOf : List Misfit → Fit
 firstOf [] = Yes
 firstOf (m ∷ ms) = No m

@@ -1,5 +1,6 @@
-// The fit check (document 01, 'The script'): whether a script fits, or the first misfit that it has. One pass over the
-// records, with the types of the set's columns at hand, after the passes that find a script's refusal.
+// The fit check (document 01, 'The script'; document 02, 2026-06): whether a script fits, or the first misfit that it has: by set; in a
+// set the classification, then columns, then cells by row and column. One pass over the records, with the types of the set's columns at
+// hand, after the passes that find a script's refusal.
 use emission::ErrorAt;
 use emission::Measure;
 use script::Found;

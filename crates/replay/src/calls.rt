@@ -49,7 +49,7 @@ fn follows_number(name: &[u8]) -> bool {
 fn told_holds(line: &[u8], name: &[u8], input: &[u8]) -> bool {
     let mut out = spaces::zeros();
     let n = tell(line, name, input, &mut out);
-    words::one_of(words::answer(line), wire::part_of(&out, first(n)))
+    check::same(words::answer(line), wire::part_of(&out, first(n)))
 }
 
 // The words of a call's answer.

@@ -1,4 +1,4 @@
-// The room for replies, and the fit check, of which document 01 leaves free which misfit it answers.
+// The room for replies, and the fit check.
 use crate::told;
 use crate::words;
 use fit::Fit;
@@ -25,7 +25,7 @@ fn tell_room(room: Built, out: &mut [u8]) -> usize {
     }
 }
 
-// fits, or a misfit: class SET, column SET COLUMN or cell SET ROW COLUMN, any of those that the line holds
+// fits, or the first misfit: class SET, column SET COLUMN or cell SET ROW COLUMN
 pub(crate) fn fits(input: &[u8], out: &mut [u8]) -> usize {
     match fit::check(input) {
         Fit::Yes => told::word(out, 0, b"fits"),

@@ -48,20 +48,6 @@ pub(crate) fn answer(line: &[u8]) -> &[u8] {
     wire::part_of(line, Part { start, len })
 }
 
-// Whether a text is one of those that `,` joins.
-pub(crate) fn one_of(texts: &[u8], told: &[u8]) -> bool {
-    let mut at = 0;
-    let mut left = texts.len();
-    while left > 0 {
-        if check::same(piece(texts, at, b','), told) {
-            return true;
-        }
-        at = past(texts, at, b',');
-        left -= 1;
-    }
-    false
-}
-
 // The number of decimal digits, modulo 2^64.
 pub(crate) fn number(digits: &[u8]) -> u64 {
     let mut n = 0;

@@ -11,3 +11,4 @@ pub mod Typed
 pub mod Lasting
 pub mod Joins
 pub mod Captures
+pub mod Misfits

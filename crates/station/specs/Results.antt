@@ -7,12 +7,14 @@ use Rattle.refusals.specs.Numbers.{bufferTooShort}
 use Rattle.result.specs.Built.{roomOf, roomAt, builtOf, builtInPackets}
 use Rattle.result.specs.declared.Built.{Built}
 use Rattle.result.specs.declared.Built.the-variants.{Written, Refused as BuiltRefused}
+use Rattle.wire.specs.Over.{overwrite}
 use Rattle.fit.specs.Misfits.{fitOf}
+use Rattle.fit.specs.First.{IsFirst}
 use Rattle.fit.specs.declared.Misfit.{Misfit}
 use Rattle.fit.specs.declared.Misfit.the-variants.{Classification, Column, Cell}
 use Rattle.fit.specs.declared.Fit.{Fit}
 use Rattle.fit.specs.declared.Fit.the-variants.{Yes, No, Refused as FitRefused}
-use Rattle.station.specs.Answer.{Outcome, answers, refuses, numberOf}
+use Rattle.station.specs.Answer.{Outcome, answers, refuses, numberOf, answerOf, slotsOf}
 
 -- the bytes written, or those of a room
 abbrev pub builtOutcome : Built → Outcome
@@ -48,11 +50,15 @@ RoomEnough =
     (s : List ℕ) → EnoughLent (numberOf (roomCall s)) (λ m. numberOf (builtCall s m))
     × ((size : ℕ) → EnoughLent (numberOf (roomInPacketsCall size s)) (λ m. numberOf (inPacketsCall size s m)))
 
--- 1 with a misfit's kind (1 classification, 2 column, 3 cell), set, row and column, 0 where there is none
+-- a misfit's kind (1 classification, 2 column, 3 cell), set, row and column, 0 where there is none
+abbrev pub misfitSlots : Misfit → List ℕ
+misfitSlots (Classification set) = 1 ∷ set ∷ 0 ∷ 0 ∷ []
+misfitSlots (Column set column) = 2 ∷ set ∷ 0 ∷ column ∷ []
+misfitSlots (Cell set row column) = 3 ∷ set ∷ row ∷ column ∷ []
+
+-- 1 with the slots of a misfit
 abbrev pub misfitOutcome : Misfit → Outcome
-misfitOutcome (Classification set) = answers 1 (1 ∷ set ∷ 0 ∷ 0 ∷ [])
-misfitOutcome (Column set column) = answers 1 (2 ∷ set ∷ 0 ∷ column ∷ [])
-misfitOutcome (Cell set row column) = answers 1 (3 ∷ set ∷ row ∷ column ∷ [])
+misfitOutcome m = answers 1 (misfitSlots m)
 
 -- 0 and no slot of a script that fits
 abbrev pub fitOutcome : Fit → Outcome
@@ -62,3 +68,9 @@ fitOutcome (FitRefused n) = refuses n
 
 unfoldable pub fitCall : List ℕ → Outcome
 fitCall s = fitOutcome (fitOf s)
+
+-- where it answers 1, the first slots are those of the script's first misfit
+abbrev pub FirstTold : Type 0
+FirstTold =
+    (s out : List ℕ) → answerOf (fitCall s) out ≡ pos 1
+    → (m : Misfit) × IsFirst s m × (slotsOf (fitCall s) out ≡ overwrite out 0 (misfitSlots m))

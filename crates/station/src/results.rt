@@ -88,7 +88,7 @@ pub extern "C" fn station_room_in_packets(script: &[u8], size: usize) -> i64
     bytes_written(result::room_in_packets(script, size))
 }
 
-// 1: kind (1 classification, 2 column, 3 cell), set, row and column of a misfit, 0 where there is none. 0: the script
+// 1: kind (1 classification, 2 column, 3 cell), set, row and column of the first misfit, 0 where there is none. 0: the script
 // fits, and no slot is asked for.
 #[no_mangle]
 pub extern "C" fn station_fit(script: &[u8], out: &mut [u64]) -> i64

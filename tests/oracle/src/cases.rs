@@ -6,11 +6,12 @@ use crate::answers::counted::places;
 use crate::answers::reply::{accepted, packet, reply, rust_packet};
 use crate::answers::request::{batch, descriptor, fedauth, transaction};
 use crate::hex::{hex, unhex};
+use crate::inputs::misfit;
 use crate::inputs::script::{SMALL, Shape, damaged, of_shape, random_script};
 use crate::protocol;
 use crate::random::Random;
 use crate::refusal::*;
-use crate::script::fit::misfits;
+use crate::script::fit::{first, misfits};
 use crate::script::records::*;
 use crate::tokens;
 use crate::utf16;
@@ -191,6 +192,51 @@ fn misfits_by_set_row_and_column() {
     assert_eq!(of(&rows), [[3, 0, 0, 1], [3, 0, 1, 0], [3, 0, 1, 1]]);
     let pair = column(5, COLLATION, &utf16::text_bytes("\u{1F600}"));
     assert_eq!(of(&[set(&[]), set(&[]), int, pair]), [[2, 1, 0, 1]]);
+}
+
+#[test]
+fn the_first_misfit_whatever_the_order_of_the_list() {
+    let rising = [
+        [1, 0, 0, 0],
+        [2, 0, 0, 0],
+        [2, 0, 0, 128],
+        [3, 0, 0, 0],
+        [3, 0, 0, 5],
+        [3, 0, 1, 0],
+        [1, 1, 0, 0],
+        [3, 1, 0, 1],
+        [2, 2, 0, 0],
+    ];
+    for place in 0..rising.len() {
+        let mut left = rising[place..].to_vec();
+        assert_eq!(first(&left), Some(rising[place]));
+        left.reverse();
+        assert_eq!(first(&left), Some(rising[place]));
+    }
+    assert_eq!(first(&[]), None);
+}
+
+/// The first misfit and another one: their kinds, and whether they are of one set and of one row.
+#[test]
+fn faults_make_every_pair_of_kinds_in_one_set_and_in_two() {
+    let mut met = BTreeSet::new();
+    let mut most = 0;
+    for faults in misfit::choices() {
+        let found = misfits(&accepted(&written(&misfit::with(&faults))).unwrap());
+        most = most.max(found.len());
+        let Some([kind, set, row, column]) = first(&found) else {
+            continue;
+        };
+        for other in found.iter().filter(|other| **other != [kind, set, row, column]) {
+            met.insert((kind, other[0], set == other[1], set == other[1] && row == other[2]));
+        }
+    }
+    let in_two_sets = (1..=3).flat_map(|a| (1..=3).map(move |b| (a, b, false, false)));
+    let in_one = [(1, 2, true), (1, 3, true), (2, 2, true), (2, 3, true), (3, 3, true)];
+    let in_other_rows = [(1, 3, false), (2, 3, false), (3, 3, false)];
+    let in_one = in_one.iter().chain(&in_other_rows).map(|(a, b, row)| (*a, *b, true, *row));
+    assert_eq!(met, in_two_sets.chain(in_one).collect());
+    assert!(most > 300);
 }
 
 #[test]

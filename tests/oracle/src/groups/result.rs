@@ -4,11 +4,12 @@ use super::Size;
 use crate::answers::reply::{accepted, packet, rust_packet};
 use crate::compare::Check;
 use crate::hex::hex;
+use crate::inputs::misfit;
 use crate::inputs::script::{Shape, WIDE, damaged, fitting_value, of_shape, random_script};
 use crate::random::Random;
 use crate::refusal::Answer;
 use crate::script::Script;
-use crate::script::fit::{Misfit, misfits};
+use crate::script::fit::{first, misfits};
 use crate::script::records::*;
 use crate::station::*;
 use crate::utf16;
@@ -35,6 +36,7 @@ pub fn compare(size: Size) -> Vec<Check> {
     results.infos();
     results.names_and_chunks();
     results.columns(&mut random);
+    results.several_misfits();
     results.several_sets();
     results.classification();
     results.other_planes();
@@ -100,10 +102,13 @@ impl Results {
         self.room.number(|| hex(script), answer, || station_room(script));
     }
 
-    /// The misfit is free among those that the script has.
+    /// The misfit is the first of all that the script has.
     fn fit(&mut self, script: &[u8], decoded: &Answer<Script>, reply: &Answer<Vec<u8>>) {
         let answer = match (decoded, reply) {
-            (Ok(decoded), Ok(_)) => Ok(fit_answer(script, &misfits(decoded))),
+            (Ok(decoded), Ok(_)) => Ok(match first(&misfits(decoded)) {
+                Some(first) => (1, first.to_vec()),
+                None => (0, Vec::new()),
+            }),
             (Err(number), _) | (_, Err(number)) => Err(*number),
         };
         self.fit.slots(|| hex(script), &answer, SLOTS, |out| station_fit(script, out));
@@ -288,9 +293,16 @@ impl Results {
         }
     }
 
-    /// 0 to 130 columns with 0 to 2 rows, and one cell more and less.
+    /// One, two and three faults of every kind at every place of a script of two sets.
+    fn several_misfits(&mut self) {
+        for faults in misfit::choices() {
+            self.records(&misfit::with(&faults));
+        }
+    }
+
+    /// 0 to 130 columns, and 300, with 0 to 2 rows, and one cell more and less.
     fn columns(&mut self, random: &mut Random) {
-        for count in 0..=130 {
+        for count in (0..=130).chain([300]) {
             let types: Vec<u8> = (0..count).map(|place| (place % 8) as u8 + 1).collect();
             let mut head = vec![set(&[])];
             for type_byte in &types {
@@ -456,16 +468,6 @@ impl Results {
 }
 
 const COLLATION: [u8; 5] = [0x09, 0x04, 0xD0, 0x00, 0x34];
-
-/// Fits, or a misfit: the one that the library names if the script has it, else one it has.
-fn fit_answer(script: &[u8], misfits: &[Misfit]) -> (i64, Vec<u64>) {
-    let Some(first) = misfits.first() else {
-        return (0, Vec::new());
-    };
-    let mut named = [u64::MAX; SLOTS];
-    station_fit(script, &mut named);
-    (1, if misfits.contains(&named) { named } else { *first }.to_vec())
-}
 
 /// A record of every sort, well-shaped but for an odd chunk and two unknown kinds.
 fn sorts_of_records() -> Vec<Record> {

@@ -3,6 +3,7 @@
 pub mod capture;
 pub mod header;
 pub mod login;
+pub mod misfit;
 pub mod request;
 pub mod response;
 pub mod script;

@@ -1,4 +1,4 @@
-//! Which scripts fit (document 01: their replies are read back whole), and every misfit of one.
+//! Which scripts fit (document 01: their replies are read back whole), every misfit of one, and its first.
 
 use super::{Cell, Column, Script, Set};
 use crate::utf16;
@@ -13,6 +13,12 @@ pub type Misfit = [u64; 4];
 const CLASSIFICATION: u64 = 1;
 const COLUMN: u64 = 2;
 const CELL: u64 = 3;
+
+/// The first of some misfits, whatever their order (document 02, 2026-06): by set; in a set the classification, then
+/// columns, then cells by row and column.
+pub fn first(misfits: &[Misfit]) -> Option<Misfit> {
+    misfits.iter().copied().min_by_key(|[kind, set, row, column]| [*set, *kind, *row, *column])
+}
 
 /// All misfits of the script; one that has none fits. A terminal script emits no set, so it fits.
 pub fn misfits(script: &Script) -> Vec<Misfit> {

@@ -4,11 +4,12 @@ use super::{Vectors, print_built, print_line, print_read, words};
 use crate::answers::packets::reply_in_packets;
 use crate::answers::reply::{accepted, extras, narrow, packet, reply, trailing};
 use crate::hex::{packed, unhex};
+use crate::inputs::misfit;
 use crate::inputs::script::{SMALL, Shape, damaged, of_shape, random_script};
 use crate::random::Random;
 use crate::refusal::Answer;
 use crate::script::Script;
-use crate::script::fit::{Misfit, misfits};
+use crate::script::fit::{Misfit, first, misfits};
 use crate::script::records::*;
 
 const COLLATION: [u8; 5] = [0x09, 0x04, 0xD0, 0x00, 0x34];
@@ -16,6 +17,9 @@ const COLLATION: [u8; 5] = [0x09, 0x04, 0xD0, 0x00, 0x34];
 /// Sizes that can be agreed, and some that cannot.
 const SIZES: [usize; 5] = [512, 513, 600, 4_096, 32_767];
 const OUTSIDE: [usize; 3] = [511, 32_768, 0];
+/// Of the scripts with faults, one in so many, and no longer ones.
+const STEP: usize = 101;
+const SHORT: usize = 1_000;
 /// The bytes of a bare set beside its classification: COLMETADATA and DONE.
 const BARE: usize = 16;
 
@@ -38,9 +42,10 @@ pub fn print(vectors: Vectors) {
         print_read("room", &script, reply(&script).map(|reply| reply.len()));
     }
     room_in_packets(vectors);
-    for script in vectors.inputs("fit", cases(), any_script) {
+    let cases = [cases(), several_misfits()].concat();
+    for script in vectors.inputs("fit", cases, any_script) {
         let fit = accepted(&script).and_then(|script| Ok((packet(&script)?, misfits(&script))));
-        print_read("fit", &script, fit.map(|(_, misfits)| fit_words(&misfits)));
+        print_read("fit", &script, fit.map(|(_, misfits)| fit_words(first(&misfits))));
     }
 }
 
@@ -97,15 +102,21 @@ fn room_in_packets(vectors: Vectors) {
     }
 }
 
-/// Every misfit of a script, any of which may be named; `fits` where there is none.
-fn fit_words(misfits: &[Misfit]) -> String {
-    let named = |[kind, set, row, column]: &Misfit| match kind {
-        1 => format!("class {set}"),
-        2 => format!("column {set} {column}"),
-        _ => format!("cell {set} {row} {column}"),
-    };
-    let named: Vec<String> = misfits.iter().map(named).collect();
-    if named.is_empty() { "fits".to_string() } else { named.join(",") }
+/// Some of the scripts of two sets with one, two or three faults; those that are not long.
+fn several_misfits() -> Vec<Vec<u8>> {
+    let choices = misfit::choices().into_iter().step_by(STEP);
+    let scripts = choices.map(|faults| written(&misfit::with(&faults)));
+    scripts.filter(|script| script.len() <= SHORT).collect()
+}
+
+/// The first misfit of a script; `fits` where there is none.
+fn fit_words(first: Option<Misfit>) -> String {
+    match first {
+        None => "fits".to_string(),
+        Some([1, set, _, _]) => format!("class {set}"),
+        Some([2, set, _, column]) => format!("column {set} {column}"),
+        Some([_, set, row, column]) => format!("cell {set} {row} {column}"),
+    }
 }
 
 fn any_script(random: &mut Random) -> Vec<u8> {
