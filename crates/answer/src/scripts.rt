@@ -103,7 +103,7 @@ fn room_line(room: Built, out: &mut [u8], at: usize) -> usize {
     }
 }
 
-// fits, or the line of a misfit
+// fits, or the line of the first misfit
 pub(crate) fn fit(input: &[u8], out: &mut [u8], at: usize) -> usize {
     match fit::check(input) {
         Fit::Yes => lines::text(out, at, b"fits\n"),

@@ -6,11 +6,11 @@ use mathlib.Core.Logic.{inl, inr, ∥∥₁-elim}
 use mathlib.Core.List.{List, [], _∷_, _++_, map, List·Mem, List·Memᴰ, List·Memᴰ·head}
 use mathlib.Core.List.{not-mem-nil, List·Memᴰ·not-nil, List·Memᴰ·cases-cons, List·Memᴰ·append-cases, List·Memᴰ·eq-of-singleton, Memᴰ·of-map}
 use mathlib.Core.List.{Pairwise, Pairwise·nil, Pairwise·cons, Pairwise·map, pairwise-singleton, pairwise-append, rel-of-pairwise-cons}
-use native.Mathlib.Bridge.{le-prop}
 use native.Mathlib.Omega.{arith}
 use lib.Dec.{eqb}
 use lib.ListN.{length}
 use Rattle.wire.proofs.Cases.{by-test, clash}
+use Rattle.wire.proofs.Rising.{RiseFrom, none-rises, rises}
 use Rattle.script.specs.Records.{records}
 use Rattle.script.specs.Sets.{ScriptCell, ScriptRow, ScriptSet, setsIn}
 use Rattle.emission.specs.Refusal.{refusalOf}
@@ -22,23 +22,7 @@ use Rattle.fit.specs.Misfits.{classificationMisfits, rowMisfits, rowsMis
 use Rattle.fit.specs.First.{place, earlier, before, FirstMisfit, FirstAnswered, FitsWithout}
 use Rattle.fit.proofs.Order.{less-head, more-head, same-head, between, not-earlier, not-self, not-back, in-order}
 
--- ---- numbers that rise from one on
-
-unfoldable RiseFrom : ℕ → List ℕ → Type 0
-RiseFrom c ns = ((n : ℕ) → List·Memᴰ n ns → c ≤ n) × Pairwise _<_ ns
-
-none-rises : (c : ℕ) → RiseFrom c []
-unfolding RiseFrom
-none-rises c = (λ n m. absurd (List·Memᴰ·not-nil m), Pairwise·nil)
-
--- a number with those after it, or these alone
-rises : (b : Bool) (c : ℕ) (ns : List ℕ) → RiseFrom (suc c) ns → RiseFrom c (cond b ns (c ∷ ns))
-unfolding RiseFrom
-rises true c ns h = (λ n m. omega (arith, h .0 n m), h .1)
-rises false c ns h = (
-  λ n m. elim (List·Memᴰ·cases-cons m) [ inl e ↦ omega (arith, e) | inr d ↦ omega (arith, h .0 n d) ],
-  Pairwise·cons (λ n m. ∥∥₁-elim m le-prop (h .0 n)) (h .1),
-)
+-- ---- numbers of wrong cells and columns rise
 
 cells-rise : (c : ℕ) (ts : List ℕ) (ps : List (List ℕ)) → RiseFrom c (wrongCells c ts ps)
 unfolding wrongCells
@@ -106,10 +90,10 @@ last-less (c ∷ front) a b h = same-head c (front ++ a ∷ []) (front ++ b ∷ 
 
 numbered : (front q : List ℕ) (of : ℕ → Misfit) → ((n : ℕ) → place (of n) ≡ front ++ n ∷ []) → ((xs : List ℕ) → earlier (front ++ xs) q ≡ true)
     → (c : ℕ) (ns : List ℕ) → RiseFrom c ns → Stand front q (map of ns)
-unfolding before RiseFrom
+unfolding before
 numbered front q of at f c ns h =
     record {
-      rising = Pairwise·map before-prop of (λ a b l. rw (at a, at b) (last-less front a b l)) (h .1);
+      rising = Pairwise·map before-prop of (λ a b l. rw (at a, at b) (last-less front a b l)) (h .rising);
       placed = λ o m. let r = Memᴰ·of-map of ns m in
           let e : place o ≡ front ++ r .0 ∷ [] = ap place (sym (r .2)) ∙ at (r .0) in
           rw e (within front (r .0 ∷ []), f (r .0 ∷ []));
