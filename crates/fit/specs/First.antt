@@ -1,5 +1,5 @@
 -- Which misfit of a script is its first (document 02, 2026-06): 'by set; within a set the classification, then columns, then cells by
--- row and column'. The order is one of misfits, whatever list they stand in. Rests on Misfits.
+-- row and column'. The order is that of the misfits themselves, in whatever list they stand. Rests on Misfits.
 use Prim.Native.Nat.{ℕ, _≤_}
 use mathlib.Core.Path.{_≡_}
 use mathlib.Core.Bool.{Bool, true, false, cond}
@@ -15,13 +15,13 @@ use Rattle.fit.specs.declared.Fit.the-variants.{Yes, No}
 
 -- ---- the order
 
--- where a misfit stands: its set; in the set 1 the classification, 2 the columns, 3 the cells; row and column, 0 where there is none
+-- where a misfit stands: its set; in it 1 for the classification, 2 for columns, 3 for cells; its row and column, 0 where there is none
 unfoldable pub place : Misfit → List ℕ
 place (Classification set) = set ∷ 1 ∷ 0 ∷ 0 ∷ []
 place (Column set column) = set ∷ 2 ∷ 0 ∷ column ∷ []
 place (Cell set row column) = set ∷ 3 ∷ row ∷ column ∷ []
 
--- whether one place is earlier than another: the first numbers that differ decide, and a place is earlier than those within it
+-- whether one place is earlier than another: the first numbers that differ decide; where one place ends first, it is the earlier
 unfoldable pub earlier : List ℕ → List ℕ → Bool
 earlier xs [] = false
 earlier [] (y ∷ ys) = true
@@ -31,7 +31,8 @@ earlier (x ∷ xs) (y ∷ ys) = cond (eqb x y) (earlier xs ys) (ltb x y)
 unfoldable pub before : Misfit → Misfit → Bool
 before m o = earlier (place m) (place o)
 
--- Of two misfits one comes before the other. None comes before itself, and what comes before comes before all that follows.
+-- This is an order: no misfit comes before itself; one that comes before another comes before all that follow that one; and of two
+-- different ones, one comes before the other.
 abbrev pub InOrder : Type 0
 InOrder =
     ((m : Misfit) → before m m ≡ false)
@@ -52,7 +53,7 @@ IsFirst s m = Has s m × ((o : Misfit) → Has s o → before o m ≡ false)
 abbrev pub FirstMisfit : Type 0
 FirstMisfit = (s : List ℕ) (m : Misfit) → fitOf s ≡ No m → IsFirst s m
 
--- and always: a script that is not refused and has a first misfit is answered with it
+-- the other way: a script that is not refused and has a first misfit is answered with it
 abbrev pub FirstAnswered : Type 0
 FirstAnswered = (s : List ℕ) (m : Misfit) → refusalOf s ≡ 0 → IsFirst s m → fitOf s ≡ No m
 
