@@ -17,7 +17,7 @@ const COLLATION: [u8; 5] = [0x09, 0x04, 0xD0, 0x00, 0x34];
 /// Sizes that can be agreed, and some that cannot.
 const SIZES: [usize; 5] = [512, 513, 600, 4_096, 32_767];
 const OUTSIDE: [usize; 3] = [511, 32_768, 0];
-/// Of the scripts with faults, one in so many, and no longer ones.
+/// One in so many of the scripts with faults, and none of more than so many bytes.
 const STEP: usize = 101;
 const SHORT: usize = 1_000;
 /// The bytes of a bare set beside its classification: COLMETADATA and DONE.
