@@ -18,6 +18,7 @@ EXPORTS = {
     "result": "station_build_query_results",
     "rpc": "station_parse_rpc_request",
     "capture": "station_capture_marks",
+    "labels": "station_read_label",
 }
 HEADS = ["case", "input", "reply", "ours", "Rust", "ours/Rust", "ours µs", "Rust µs", "ours/Rust", "ours/byte",
          "Rust/byte"]

@@ -74,6 +74,8 @@ static struct export exports[] = {
     EXPORT(station_fresh, "p"),
     EXPORT(station_step, "ipo"),
     EXPORT(station_payload, "ib"),
+    EXPORT(station_read_label, "ib"),
+    EXPORT(station_write_label, "ib"),
     EXPORT(station_build_prelogin_response, "b"),
     EXPORT(station_build_prelogin_response_with_encryption, "fb"),
     EXPORT(station_build_prelogin_response_with_fedauth, "ffb"),

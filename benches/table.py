@@ -67,14 +67,15 @@ def show(heads, rows):
 
 def show_growth(growth):
     """A line for each kind and side that was counted at two sizes or more. `growth` has for each the pairs of bytes and
-    instructions, the smallest first."""
-    for (kind, side), pairs in growth.items():
+    instructions, the smallest first; where something else than bytes is counted, its name stands with kind and side."""
+    for (kind, side, *named), pairs in growth.items():
         if len(pairs) < 2:
             continue
         (least, few), (most, many) = pairs[0], pairs[-1]
+        per = named[0] if named else "byte"
         steps = [(b - a) / (n - m) for (m, a), (n, b) in zip(pairs, pairs[1:])]
-        print(f"- {kind}, {side}: instructions per byte from {least:,} to {most:,} bytes: {few / least:.2f} -> "
-              f"{many / most:.2f}; for each byte more {', '.join(f'{step:.2f}' for step in steps)}: {manner(steps)}")
+        print(f"- {kind}, {side}: instructions per {per} from {least:,} to {most:,} {per}s: {few / least:.2f} -> "
+              f"{many / most:.2f}; for each {per} more {', '.join(f'{step:.2f}' for step in steps)}: {manner(steps)}")
     print()
 
 

@@ -11,8 +11,8 @@
  * - 0 or more, as said at each call; or -N for refusal N, and then nothing was written.
  * - `out` is lent for numbers. Its first slots are written, as many as the call's ..._SLOTS macro says, and the others
  *   are kept. Fewer slots than those is -20, after all other refusals.
- * - `buf` is lent for bytes, and the answer is how many were written to its front; the others are kept. Fewer bytes
- *   than those is -20, after all other refusals.
+ * - `buf` is lent for bytes, and the answer is how many were written to its front (of a label that is null, none: then
+ *   it is STATION_NULL_LABEL); the others are kept. Fewer bytes than those is -20, after all other refusals.
  *
  * Nothing is kept from one call to the next, and no call allocates memory. docs/FORMATS.md has the formats and the
  * table of refusals, docs/EMBEDDING.md what to link and to lend. include/station.rs declares the same for Rust.
@@ -30,7 +30,7 @@ extern "C" {
 
 /* The version of these calls (CHANGELOG.md). An answer that changes changes the version. */
 #define STATION_VERSION_MAJOR 4
-#define STATION_VERSION_MINOR 1
+#define STATION_VERSION_MINOR 2
 
 /* The most bytes of a reply, and of a reply in packets: a `buf` of so many is never too short. */
 #define STATION_MOST_REPLY 65535
@@ -61,20 +61,22 @@ extern "C" {
 #define STATION_TEXT_WRONG 14      /* a text of a record is not UTF-16 */
 #define STATION_EMPTY_CHUNK 15     /* a chunk is empty */
 #define STATION_NAME_TOO_LONG 16   /* a column, server or procedure name is over 255 units */
-#define STATION_RESULT_TOO_LONG 17 /* a result is over 65,535 bytes */
+#define STATION_RESULT_TOO_LONG 17 /* a result is over 65,535 bytes, or a label over 65,535 characters */
 
 /* caused by the caller; there is no refusal 19 */
-#define STATION_INPUT_TOO_LONG 18   /* an input is over 65,536 bytes, packets over 131,072: given by the programs, by no call */
-#define STATION_BUFFER_TOO_SHORT 20 /* a lent buffer is too short */
-#define STATION_ODD_TEXT 21         /* a text argument has an odd number of bytes */
-#define STATION_NOT_UTF16 22        /* a text argument is not UTF-16 */
-#define STATION_PACKET_SIZE 32      /* a packet size is under 512 or over 32,767 bytes */
+#define STATION_INPUT_TOO_LONG 18    /* an input is over 65,536 bytes, packets or a label over 131,072: given by the
+                                        programs, by no call */
+#define STATION_BUFFER_TOO_SHORT 20  /* a lent buffer is too short */
+#define STATION_ODD_TEXT 21          /* a text argument has an odd number of bytes */
+#define STATION_NOT_UTF16 22         /* a text argument is not UTF-16 */
+#define STATION_PACKET_SIZE 32       /* a packet size is under 512 or over 32,767 bytes */
+#define STATION_UNIT_WITHOUT_BYTE 36 /* a unit of a label has no byte in Windows-1252 */
 
 /* caused by the sender of a reply */
 #define STATION_NOT_A_REPLY 23         /* a packet is not of type 04, or its length is under 9 or past the bytes lent */
-#define STATION_CUT 24                 /* a reply is cut, or a position stands nowhere in it */
+#define STATION_CUT 24                 /* a reply or a label's value is cut, or a position stands nowhere in a reply */
 #define STATION_UNKNOWN_TOKEN 25       /* a byte begins no token */
-#define STATION_INNER_WRONG 26         /* an inner length or a type is wrong, or bytes follow the last DONE */
+#define STATION_INNER_WRONG 26         /* an inner length or a type is wrong, or bytes follow the last DONE or a label */
 #define STATION_TOO_MANY_COLUMNS 27    /* a set has over 128 columns */
 #define STATION_ROW_WITHOUT_COLUMNS 28 /* a row stands in a set without columns */
 #define STATION_NOT_THE_NEXT 33        /* a packet's number is not the next */
@@ -447,6 +449,37 @@ int64_t station_step(const uint8_t *packets, size_t packets_len, uint64_t *posit
  * -8, -9, -23, -33 and -34 as above, of what stops the packets; -20 a `buf` that is too short.
  */
 int64_t station_payload(const uint8_t *packets, size_t packets_len, uint8_t *buf, size_t buf_len);
+
+/* ---- Event labels
+ *
+ * A label is a VARCHAR(MAX) in Windows-1252. Its value is a total of 8 bytes, the lower byte first, and chunks as those
+ * of STATION_CASE_MAX: of such a cell it is the part and the 8 bytes before it. The total FFFFFFFFFFFFFFFF is null, and
+ * nothing follows it; FFFFFFFFFFFFFFFE is one that is not known. A byte is a character, by the index windows-1252 of the
+ * WHATWG Encoding Standard: 81, 8D, 8F, 90 and 9D are U+0081 and so on.
+ */
+
+/* The most bytes of a label's text and of its value: a `buf` of so many is never too short. */
+#define STATION_MOST_LABEL_TEXT 131070
+#define STATION_MOST_LABEL_VALUE 65551
+
+/* The answer for a value that is null. */
+#define STATION_NULL_LABEL 4294967296
+
+/* The text of a label's value.
+ * The value FEFFFFFFFFFFFFFF 01000000 80 00000000 gives AC20, the euro sign, and 2.
+ * 0 or more: the bytes written, two a character. STATION_NULL_LABEL: it is null, and `buf` may be empty.
+ * -24 a value that is cut, -26 one that is ill-formed or that bytes follow, by the first byte that is wrong; -17 over
+ * 65,535 characters; -20 a `buf` that is too short: twice the bytes of the value are enough.
+ */
+int64_t station_read_label(const uint8_t *value, size_t value_len, uint8_t *buf, size_t buf_len);
+
+/* The value of a label's text, of known total and one chunk, or none where the text is empty.
+ * The text AC20 gives 0100000000000000 01000000 80 00000000 and 17.
+ * 0 or more: the bytes written: 12 of an empty text, of another 16 and one a character.
+ * -21 an odd number of bytes, -36 a unit that no byte stands for, such as a surrogate, -17 over 65,535 characters, -20 a
+ * `buf` that is too short.
+ */
+int64_t station_write_label(const uint8_t *text, size_t text_len, uint8_t *buf, size_t buf_len);
 
 /* ---- Other replies
  *

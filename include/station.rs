@@ -9,7 +9,7 @@
 // call is unsafe, because nothing checks that a pointer is valid for the length that follows it.
 
 pub const STATION_VERSION_MAJOR: u32 = 4;
-pub const STATION_VERSION_MINOR: u32 = 1;
+pub const STATION_VERSION_MINOR: u32 = 2;
 pub const STATION_MOST_REPLY: usize = 65535;
 pub const STATION_MOST_PACKETS: usize = 66575;
 
@@ -43,6 +43,7 @@ pub const STATION_BUFFER_TOO_SHORT: i64 = 20;
 pub const STATION_ODD_TEXT: i64 = 21;
 pub const STATION_NOT_UTF16: i64 = 22;
 pub const STATION_PACKET_SIZE: i64 = 32;
+pub const STATION_UNIT_WITHOUT_BYTE: i64 = 36;
 
 pub const STATION_NOT_A_REPLY: i64 = 23;
 pub const STATION_CUT: i64 = 24;
@@ -245,6 +246,13 @@ pub const STATION_MESSAGE_SERVER_LENGTH: usize = 8;
 pub const STATION_MESSAGE_PROCEDURE_START: usize = 9;
 pub const STATION_MESSAGE_PROCEDURE_LENGTH: usize = 10;
 
+// ---- Event labels
+
+pub const STATION_MOST_LABEL_TEXT: usize = 131070;
+pub const STATION_MOST_LABEL_VALUE: usize = 65551;
+
+pub const STATION_NULL_LABEL: i64 = 4294967296;
+
 // ---- Other replies
 
 pub const STATION_RECORD_FEATURE: u16 = 0x0013;
@@ -373,7 +381,24 @@ unsafe extern "C" {
         out: *mut u64,
         out_len: usize,
     ) -> i64;
-    pub fn station_payload(packets: *const u8, packets_len: usize, buf: *mut u8, buf_len: usize) -> i64;
+    pub fn station_payload(
+        packets: *const u8,
+        packets_len: usize,
+        buf: *mut u8,
+        buf_len: usize,
+    ) -> i64;
+    pub fn station_read_label(
+        value: *const u8,
+        value_len: usize,
+        buf: *mut u8,
+        buf_len: usize,
+    ) -> i64;
+    pub fn station_write_label(
+        text: *const u8,
+        text_len: usize,
+        buf: *mut u8,
+        buf_len: usize,
+    ) -> i64;
     pub fn station_build_prelogin_response(buf: *mut u8, buf_len: usize) -> i64;
     pub fn station_build_prelogin_response_with_encryption(
         supports_encryption: bool,

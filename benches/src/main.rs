@@ -6,11 +6,14 @@
 //! turn, many times, and prints the nanoseconds of ours and of the Rust's; ours is `-` where the
 //! library does not export it. `bench steps` reads the packet on standard input by `station_step`,
 //! `bench rpc NUMBER` the procedure call there, with its parameter of a number, `bench capture` the
-//! capture there.
+//! capture there; `bench labels read` reads the event label there, `bench labels write` writes one of
+//! the text there.
 
 #[cfg(feature = "capture")]
 mod captures;
 mod cases;
+#[cfg(feature = "labels")]
+mod labels;
 #[cfg(feature = "rpc")]
 mod procedures;
 mod region;
@@ -49,8 +52,13 @@ use cases::{Case, Outcome, Side, cases};
 use region::Measure;
 use std::process::ExitCode;
 
-const USAGE: &str =
-    "bench list\nbench CASE ours|rust|time\nbench steps\nbench rpc NUMBER\nbench capture";
+const USAGE: &str = "\
+bench list
+bench CASE ours|rust|time
+bench steps
+bench rpc NUMBER
+bench capture
+bench labels read|write";
 
 /// How often the sides take turns. A time is the least of so many medians: whatever else the machine
 /// does only adds to it.
@@ -70,6 +78,8 @@ fn main() -> ExitCode {
         ["rpc", number] => procedures::count(number),
         #[cfg(feature = "capture")]
         ["capture"] => captures::count(),
+        #[cfg(feature = "labels")]
+        ["labels", way] => labels::count(way),
         [case, "ours"] => count(case, Side::Ours),
         [case, "rust"] => count(case, Side::Rust),
         [case, "time"] => time(case),

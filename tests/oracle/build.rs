@@ -8,7 +8,8 @@ use std::{env, fs};
 const RUST: &str = "docs/src/mssql-mock-tds/src";
 const WRAPPERS: &str = "tests/oracle/wrappers";
 const LIBRARY: &str = "target/staticlib";
-const GROUPS: [&str; 6] = ["HEADER", "TEXT", "REQUEST", "LOGIN", "RESULT", "RESPONSE"];
+const GROUPS: [&str; 8] =
+    ["HEADER", "TEXT", "REQUEST", "LOGIN", "RESULT", "RESPONSE", "CAPTURE", "LABELS"];
 
 /// The modules, with the FNV-1a sums of their files as they were published.
 const MODULES: [(&str, u64); 2] =

@@ -36,6 +36,8 @@
     X(fresh, POSITION)                                                                        \
     X(step, IN(0), POSITION, OUT)                                                             \
     X(payload, IN(0), BUF)                                                                    \
+    X(read_label, IN(0), BUF)                                                                 \
+    X(write_label, IN(0), BUF)                                                                \
     X(build_prelogin_response, BUF)                                                           \
     X(build_prelogin_response_with_encryption, N(0), BUF)                                     \
     X(build_prelogin_response_with_fedauth, N(0), N(1), BUF)                                  \

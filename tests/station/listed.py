@@ -37,6 +37,7 @@ class Listed:
     def __init__(self, functions, constants):
         self.functions = functions
         self.slots = {name: constants[f"STATION_{macro}_SLOTS"] for name, macro in SLOTS.items()}
+        self.null = constants["STATION_NULL_LABEL"]
 
     def cases(self, text):
         for line in text.splitlines():
@@ -56,6 +57,8 @@ class Listed:
             yield f"{name} i:{expanded(arguments[1])} n:{arguments[0]}", answer.replace("refused ", "-")
         elif name == "capture_marks":
             yield from self.capture(arguments, answer)
+        elif name in ("read_label", "write_label"):
+            yield from self.label(name, arguments, answer)
         elif name == "database":
             yield from self.database(*map(expanded, arguments), expanded(answer))
         elif name in ("room", "parse_transaction_manager_request"):
@@ -119,6 +122,15 @@ class Listed:
             yield f"{call} o:{size}", f"{count} {slots(marks)}" if marks else count
         for size in few:
             yield f"{call} o:{size}", TOO_SHORT
+
+    def label(self, name, arguments, answer):
+        """A label is written to a buffer as others are; null needs none."""
+        word, _, held = answer.partition(" ")
+        if word == "null":
+            for size in {0, int(arguments[0])}:
+                yield f"{name} i:{expanded(arguments[1])} b:{size}", str(self.null)
+        else:
+            yield from self.build(name, arguments, answer if word == "refused" else held)
 
     def database(self, fallback, body, text):
         def right(said):

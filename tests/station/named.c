@@ -1,6 +1,6 @@
 /* Prints what calls answer by the names of the header's slots, in the lines of `answer many CALL`: CALL is `header`,
- * `login`, `descriptor`, `fedauth`, `rpc` or `fit`, or `text`, which prints a text's four counts. Inputs come from
- * standard input, each a length of 4 bytes, the lower byte first, and its bytes. */
+ * `login`, `descriptor`, `fedauth`, `rpc`, `fit` or `read_label`, or `text`, which prints a text's four counts. Inputs come
+ * from standard input, each a length of 4 bytes, the lower byte first, and its bytes. */
 #include "station.h"
 
 #include <inttypes.h>
@@ -8,7 +8,7 @@
 #include <string.h>
 
 enum { MOST = 1 << 18, NUMBER = 4 };
-static uint8_t input[MOST], ids[MOST];
+static uint8_t input[MOST], ids[MOST], shown[STATION_MOST_LABEL_TEXT];
 static uint64_t out[STATION_RPC_SLOTS];
 
 static void print_refused(int64_t answer)
@@ -194,6 +194,21 @@ static void fit(size_t length)
                out[STATION_FIT_COLUMN]);
 }
 
+static void read_label(size_t length)
+{
+    int64_t answer = station_read_label(input, length, shown, sizeof shown);
+
+    if (answer < 0) {
+        print_refused(answer);
+    } else if (answer == STATION_NULL_LABEL) {
+        printf("null\n");
+    } else {
+        printf("text ");
+        print_bytes(shown, 0, (uint64_t)answer);
+        printf("\n");
+    }
+}
+
 static void text(size_t length)
 {
     int64_t answer = station_text(input, length, out, STATION_TEXT_SLOTS);
@@ -209,7 +224,7 @@ static const struct {
     const char *name;
     void (*print)(size_t length);
 } calls[] = {{"header", header}, {"login", login}, {"descriptor", descriptor},
-             {"fedauth", fedauth}, {"rpc", rpc}, {"fit", fit}, {"text", text}};
+             {"fedauth", fedauth}, {"rpc", rpc}, {"fit", fit}, {"read_label", read_label}, {"text", text}};
 
 int main(int count, char **words)
 {

@@ -3,8 +3,10 @@ the library calls from outside are those that the page names."""
 import re
 
 import compiled
+import lending
 from compiled import LIBRARY, ROOT
 
+REPLY = ROOT / "target/bin/reply"
 BLOCK = re.compile(r"^```(\w+)\n(.*?)^```$", re.M | re.S)
 # Each block of C in a program that says what it came to.
 LOGIN = """#include <stdio.h>
@@ -35,6 +37,29 @@ int main(void)
 %s    return written > 0 && fwrite(packets, 1, (size_t)written, stdout) == (size_t)written ? 0 : 1;
 }
 """
+LABELS = """#include <stdio.h>
+#include "station.h"
+static void show(const uint8_t *payload, const uint64_t *out)
+{
+%s    if (length == STATION_NULL_LABEL)
+        printf("null");
+    for (int64_t at = 0; length != STATION_NULL_LABEL && at < length; at++)
+        printf("%%02X", (unsigned)text[at]);
+    printf("\\n");
+}
+int main(void)
+{
+    static uint8_t packets[STATION_MOST_REPLY], payload[STATION_MOST_REPLY];
+    uint64_t position[STATION_POSITION_SLOTS], out[STATION_STEP_SLOTS];
+    size_t length = fread(packets, 1, sizeof packets, stdin);
+    station_payload(packets, length, payload, sizeof payload);
+    station_fresh(position, STATION_POSITION_SLOTS);
+    while (station_step(packets, length, position, STATION_POSITION_SLOTS, out, STATION_STEP_SLOTS) == 1)
+        if (out[STATION_STEP_KIND] == STATION_TOKEN_CELL)
+            show(payload, out);
+    return 0;
+}
+"""
 LOGIN_HEADER, LOGIN_LENGTH = "0401006f00000100ad", 111
 
 
@@ -50,7 +75,7 @@ def c_program(folder, name, frame, block):
 
 
 def compare_c(tally, folder):
-    records, login, cut, reader = blocks("c")
+    records, login, cut, reader, labels = blocks("c")
     helpers = (ROOT / "examples/recorder.c").read_text()
     shown = "".join(f"    {line}\n" for line in records.splitlines())
     tally.check(shown in helpers, "EMBEDDING: the first script is not that of examples/recorder.c")
@@ -62,6 +87,7 @@ def compare_c(tally, folder):
         found = compiled.run([program], stdin=packet).stdout
     lines = (ROOT / "examples/two-sets.tokens.txt").read_text().splitlines()
     tally.equal("EMBEDDING: the tokens that are read", f"{len(lines) - 1}\n", found)
+    compare_labels(tally, c_program(folder, "labels", LABELS, labels))
 
 
 def compare_packets(tally, program):
@@ -72,6 +98,16 @@ def compare_packets(tally, program):
         starts = [sum(lengths[:i]) for i in range(len(lengths))]
         told = [int.from_bytes(found[at + 2:at + 4], "big") for at in starts]
         tally.equal("EMBEDDING: a reply in packets", (sum(lengths), lengths), (len(found), told))
+
+
+def compare_labels(tally, program):
+    """Of a VARCHAR(MAX) column the cells: a label in two chunks, and null."""
+    cells = lending.record(5, b"\x08") + lending.record(6, b"\x80") + lending.record(6, b"A"), lending.record(5, b"\x07")
+    rows = b"".join(lending.record(4) + cell for cell in cells)
+    script = lending.record(1) + lending.columns([7], 1) + rows
+    packet = compiled.subprocess.run([REPLY], input=script, capture_output=True).stdout
+    found = compiled.subprocess.run([program], input=packet, capture_output=True).stdout.decode()
+    tally.equal("EMBEDDING: the labels of a reply", "AC204100\nnull\n", found)
 
 
 def compare_rust(tally, folder):

@@ -20,6 +20,9 @@ NO_PART = 2**64 - 1
 # The bytes of a packet header, and the bits of its status that the list has after its slots.
 HEADER = 8
 END_OF_MESSAGE, IGNORE = 1, 2
+# The calls of labels, each with the word before its bytes, and the answer to a value that is null.
+LABELS = {"read_label": "text", "write_label": "value"}
+NULL = 2**32
 
 
 def library():
@@ -70,7 +73,7 @@ class Ours:
     def called(self, name, export, words):
         """The number that a call answers, its inputs, and the memory that it was lent."""
         lent = HEADER if name == "write_header" else 0
-        if name.startswith("build_") or name in ("parse_login7", "capture_marks"):
+        if name.startswith("build_") or name in ("parse_login7", "capture_marks", *LABELS):
             lent = int(words.pop(0))
         if name in ("database", "parse_rpc_request"):
             words.reverse()
@@ -95,6 +98,8 @@ class Ours:
         """A call's answer in the words of the list."""
         if number < 0:
             return f"refused {-number}"
+        if name in LABELS:
+            return "null" if number == NULL else f"{LABELS[name]} {listing.packed(room.raw[:number])}"
         if name.startswith("build_") or name == "write_header":
             return listing.packed(room.raw[:number])
         if name == "database":

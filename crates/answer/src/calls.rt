@@ -1,4 +1,5 @@
 // The calls, a function each: it gets the input, puts its lines to out from at on, and answers the place after them.
+use crate::labels;
 use crate::lines;
 use crate::logins;
 use crate::procedures;
@@ -24,6 +25,8 @@ pub(crate) enum Call {
     Rpc,
     Tokens,
     Places,
+    ReadLabel,
+    WriteLabel,
     Unknown,
 }
 
@@ -47,6 +50,23 @@ pub(crate) fn named(argument: usize) -> Call {
     if check::same(word, b"fit") {
         return Call::Fit;
     }
+    if check::same(word, b"tokens") {
+        return Call::Tokens;
+    }
+    if check::same(word, b"places") {
+        return Call::Places;
+    }
+    if check::same(word, b"read_label") {
+        return Call::ReadLabel;
+    }
+    if check::same(word, b"write_label") {
+        return Call::WriteLabel;
+    }
+    named_request(word)
+}
+
+// The call that a word names, of those that read what a client sends.
+fn named_request(word: &[u8]) -> Call {
     if check::same(word, b"header") {
         return Call::Header;
     }
@@ -68,12 +88,6 @@ pub(crate) fn named(argument: usize) -> Call {
     if check::same(word, b"rpc") {
         return Call::Rpc;
     }
-    if check::same(word, b"tokens") {
-        return Call::Tokens;
-    }
-    if check::same(word, b"places") {
-        return Call::Places;
-    }
     Call::Unknown
 }
 
@@ -94,6 +108,8 @@ pub(crate) fn answer(call: Call, input: &[u8], out: &mut [u8], at: usize) -> usi
         Call::Rpc => procedures::answer(input, out, at),
         Call::Tokens => replies::answer(input, false, out, at),
         Call::Places => replies::answer(input, true, out, at),
+        Call::ReadLabel => labels::read(input, out, at),
+        Call::WriteLabel => labels::write(input, out, at),
         Call::Unknown => at,
     }
 }

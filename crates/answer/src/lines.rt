@@ -102,6 +102,13 @@ pub(crate) fn number_line(out: &mut [u8], at: usize, word: &[u8], n: u64) -> usi
     end(out, at)
 }
 
+// A line of a word and bytes.
+pub(crate) fn bytes_line(out: &mut [u8], at: usize, word: &[u8], s: &[u8]) -> usize {
+    let at = text(out, at, word);
+    let at = bytes(out, at, s);
+    end(out, at)
+}
+
 // A line of a word and a part.
 pub(crate) fn part_line(out: &mut [u8], at: usize, word: &[u8], place: Part) -> usize {
     let at = part(out, at, word, place);

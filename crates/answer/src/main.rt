@@ -2,6 +2,7 @@
 // `answer many CALL`: any number of inputs, each a 4-byte little-endian length and the bytes; an empty line follows each answer.
 // Other arguments: a line on standard error says what it takes, and standard input is not read.
 mod calls;
+mod labels;
 mod lines;
 mod logins;
 mod procedures;
@@ -53,6 +54,6 @@ fn many(call: Call) {
 fn usage() {
     io::write_all(
         libc::STDERR_FILENO,
-        b"usage: answer [many] CALL < INPUT, where CALL is one of: reply packets room sized fit tokens places batch trans descriptor fedauth header login rpc\n",
+        b"usage: answer [many] CALL < INPUT, where CALL is one of: reply packets room sized fit tokens places batch trans descriptor fedauth header login rpc read_label write_label\n",
     );
 }

@@ -7,10 +7,10 @@ use crate::lines;
 use libc::STDIN_FILENO;
 use wire::Part;
 
-// The most bytes of an input, and of a reply in packets.
+// The most bytes of an input, and of one that is a reply in packets or a label.
 const MOST: usize = 65536;
 
-const MOST_PACKETS: usize = 131072;
+const MOST_LONG: usize = 131072;
 
 // The bytes of the lent input buffer: an input and the length of a next one.
 pub(crate) const ROOM: usize = 131076;
@@ -18,7 +18,7 @@ pub(crate) const ROOM: usize = 131076;
 // The most bytes of a call's input.
 fn most(call: Call) -> usize {
     match call {
-        Call::Tokens | Call::Places => MOST_PACKETS,
+        Call::Tokens | Call::Places | Call::ReadLabel | Call::WriteLabel => MOST_LONG,
         _ => MOST,
     }
 }

@@ -33,9 +33,7 @@ pub(crate) fn reply(input: &[u8], out: &mut [u8], at: usize) -> usize {
 }
 
 fn packet_line(packet: &[u8], out: &mut [u8], at: usize) -> usize {
-    let at = lines::text(out, at, b"packet");
-    let at = lines::bytes(out, at, packet);
-    lines::end(out, at)
+    lines::bytes_line(out, at, b"packet", packet)
 }
 
 // The script after a packet size.

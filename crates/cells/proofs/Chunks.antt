@@ -47,7 +47,7 @@ or-turned true false e = refl
 or-turned false true e = refl
 or-turned false false e = e
 
-module _ {p : Source} (short : length (p .bytes) < 65536) (fs : List Field) (text known : Bool) (start : Place) where
+module _ {p : Source} (short : length (p .bytes) < 256 ^ 4) (fs : List Field) (text known : Bool) (start : Place) where
   pub chunks-at : (turns : ℕ) (cs : List (List ℕ)) (left at : ℕ) → length cs < turns → ChunksOk text cs → left ≡ length (joined cs) → At p at (putChunks cs fs)
       → chunksAt turns text known p start left at ≡ whole (partTo start (past-chunks at cs)) (past-chunks at cs)
   unfolding chunksAt chunkAt isChunk isLast
@@ -64,7 +64,7 @@ module _ {p : Source} (short : length (p .bytes) < 65536) (fs : List Field) (tex
       ∙ cond-no _ _ (ne-eqb (length c) 0 (omega arith)) ∙ chunks-at turns cs (left - length c) (at + 4 + length c) (omega arith) (ok .2) (omega arith) a2
 
 -- the chunks' bytes, whatever follows them
-joined-at : (turns : ℕ) (text : Bool) (cs : List (List ℕ)) (fs : List Field) → length cs < turns → length (joined cs) < 65536 → ChunksOk text cs
+pub joined-at : (turns : ℕ) (text : Bool) (cs : List (List ℕ)) (fs : List Field) → length cs < turns → length (joined cs) < 256 ^ 4 → ChunksOk text cs
     → chunkBytes turns (flat (putChunks cs fs)) ≡ joined cs
 unfolding chunkBytes flat
 joined-at zero text cs fs h l ok = absurd (not-suc-le-zero h)
@@ -104,9 +104,9 @@ even-sum true (c ∷ cs) ok =
     let e2 : length (joined cs) % 2 ≡ 0 = eqb-true _ _ (or-turned _ false (even-sum true cs (ok .2))) in
     rw (eq-eqb (length (c ++ joined cs) % 2) 0 (simp length-append (omega arith)))
 
-module _ {p : Source} (short : length (p .bytes) < 65536) (fs : List Field) (text : Bool) (cs : List (List ℕ)) (ok : ChunksOk text cs) (at : Place)
+module _ {p : Source} (short : length (p .bytes) < 256 ^ 4) (fs : List Field) (text : Bool) (cs : List (List ℕ)) (ok : ChunksOk text cs) (at : Place)
     (a : At p at (word 8 (length (joined cs)) ∷ putChunks cs fs)) where
-  few : (length cs < suc (length (p .bytes))) × (length (joined cs) < 65536)
+  few : (length cs < suc (length (p .bytes))) × (length (joined cs) < 256 ^ 4)
   few = (omega (arith, past-is (at + 8) cs, after-chunks (at + 8) cs (past-word a) .inside), omega (arith, past-is (at + 8) cs, after-chunks (at + 8) cs (past-word a) .inside))
 
   pub max-at : maxAt text p at ≡ whole (value.Max (partTo (at + 8) (past-chunks (at + 8) cs))) (past-chunks (at + 8) cs)

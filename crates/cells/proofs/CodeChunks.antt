@@ -1,11 +1,12 @@
 -- The chunks of a Max value, one turn after another, and that enough turns are as good as more. Assumes nothing.
 use mathlib.Core.Path.{_≡_, refl, sym, ap, _∙_}
 use mathlib.Core.Bool.{Bool, true, false, cond}
-use mathlib.Core.List.{List}
+use mathlib.Core.List.{List, _++_}
 use Prim.Native.Nat.{ℕ, zero, suc, _+_, _-_, _≤_, _<_}
 use native.Mathlib.Omega.{arith}
 use lib.Dec.{eqb, leb}
-use lib.ListN.{length, drop}
+use lib.ListN.{length, take, drop, length-drop, length-append}
+use lib.Seq.{length-take-le}
 use borrow.Author.Tests.{leb-true, eqb-true}
 use Rattle.wire.proofs.Cases.{clash}
 use Rattle.wire.specs.Le.{leAt}
@@ -15,9 +16,13 @@ use Rattle.cells.specs.declared.ChunkRead.the-variants as chunk
 use Rattle.payload.specs.Places.{Source, Place, Read, whole, refused, numberAt, partAt, must, then, partTo}
 use Rattle.cells.specs.Cells.{isChunk, isLast, chunkAt, chunksAt}
 use Rattle.cells.specs.Code.{chunkRead}
+use Rattle.cells.specs.declared.ChunksAt.{ChunksAt}
+use Rattle.cells.specs.declared.ChunksRead.{ChunksRead}
+use Rattle.cells.specs.declared.ChunksRead.the-variants as chunks
+use Rattle.cells.specs.Answers.{chunksRead}
+use Rattle.cells.specs.Values.{joinedFrom}
+use Rattle.cells.proofs.Joined.{joined-turn, joined-end}
 use Rattle.payload.specs.declared.frames.Frame.{Frame}
-use Rattle.payload.specs.declared.PartRead.the-variants as part
-use Rattle.payload.specs.Answers.{partRead}
 use Rattle.payload.specs.Frames.{sourceFrom, frameAt}
 use Rattle.payload.proofs.Sources.{Same, same-self, same-later, same-then}
 use Rattle.payload.proofs.Agree.{agree-is}
@@ -51,6 +56,19 @@ pub chunk-is-not : (x : Read ℕ) {r : ChunkRead} {n : ℕ} → r ≡ chunkRead 
 chunk-is-not (whole m at) e f = none-of (eqb m 0) m at _ (sym e ∙ f)
 chunk-is-not (refused m) e f = cc
 
+-- ---- what the answer for chunks tells
+
+pub chunks-is : (src : Source) (start : Place) (x : Read Part) {r : ChunksRead} {n : ChunksAt} → r ≡ chunksRead src start x → r ≡ chunks.Whole n
+    → (x ≡ whole (n .part) (n .next)) × (n .count ≡ length (joinedFrom (src .bytes) start))
+chunks-is src start (whole v to) {n = n} e f =
+    let q : n ≡ record { part = v; count = length (joinedFrom (src .bytes) start); next = to } = cc in
+    (rw q, rw q)
+chunks-is src start (refused m) e f = clash (cc)
+
+pub chunks-is-not : (src : Source) (start : Place) (x : Read Part) {r : ChunksRead} {m : ℕ} → r ≡ chunksRead src start x → r ≡ chunks.Refused m → x ≡ refused m
+chunks-is-not src start (whole v to) e f = clash (cc)
+chunks-is-not src start (refused n) e f = cc
+
 -- ---- a chunk that was read lies in the packet
 
 module _ {A : Type 0} where
@@ -59,29 +77,34 @@ module _ {A : Type 0} where
   passed false x n e = clash (cc)
 
 -- by the tests that it passed
-fits-of : (b : Bool) (len stop at m n to : ℕ) (last more : Bool)
+says-of : (b : Bool) (len stop at m n to : ℕ) (last more : Bool) → eqb m 0 ≡ b
     → cond b (cond last (whole 0 at) (refused 26)) (cond more (cond (leb (at + m) len) (whole m (at + m)) (refused stop)) (refused 26)) ≡ whole n to
-    → at ≤ len → (at ≤ to) × (to ≤ len)
-fits-of true len stop at m n to last more e h =
+    → at ≤ len → (m ≡ n) × (at + n ≡ to) × (to ≤ len)
+says-of true len stop at m n to last more q e h =
     let w = passed last _ 26 e in
     let f : at ≡ to = cc in
-    (omega arith, omega arith)
-fits-of false len stop at m n to last more e h =
+    let g : n ≡ 0 = cc in
+    (omega (arith, eqb-true m 0 q), omega arith, omega arith)
+says-of false len stop at m n to last more q e h =
     let w = passed more _ 26 e in
     let v = passed (leb (at + m) len) _ stop (w .1) in
     let f : at + m ≡ to = cc in
+    let g : m ≡ n = cc in
     let l : at + m ≤ len = leb-true (at + m) len (v .0) in
-    (omega arith, omega arith)
+    (g, omega arith, omega arith)
 
 module _ (text known : Bool) (p : Source) where
-  pub chunk-fits : (left at n to : ℕ) → chunkAt text known p left at ≡ whole n to → (at < to) × (to ≤ length (p .bytes))
+  pub chunk-says : (left at n to : ℕ) → chunkAt text known p left at ≡ whole n to
+      → (leAt 4 (drop at (p .bytes)) ≡ n) × (at + 4 + n ≡ to) × (to ≤ length (p .bytes))
   unfolding chunkAt numberAt partAt must
-  chunk-fits left at n to e =
+  chunk-says left at n to e =
       let w = passed (leb (at + 4) (length (p .bytes))) _ (p .stop) e in
       let l : at + 4 ≤ length (p .bytes) = leb-true (at + 4) (length (p .bytes)) (w .0) in
       let m : ℕ = leAt 4 (drop at (p .bytes)) in
-      let v = fits-of (eqb m 0) (length (p .bytes)) (p .stop) (at + 4) m n to (isLast known left) (isChunk text known left m) (w .1) l in
-      (omega arith, v .1)
+      says-of (eqb m 0) (length (p .bytes)) (p .stop) (at + 4) m n to (isLast known left) (isChunk text known left m) refl (w .1) l
+
+  pub chunk-fits : (left at n to : ℕ) → chunkAt text known p left at ≡ whole n to → (at < to) × (to ≤ length (p .bytes))
+  chunk-fits left at n to e = let s = chunk-says left at n to e in (omega (arith, s .1), s .2)
 
   -- ---- turns
 
@@ -119,43 +142,68 @@ module _ (text known : Bool) (p : Source) where
     pub breaks : (left at n : ℕ) → chunkAt text known p left at ≡ refused n → chunksAt (suc (length (p .bytes))) text known p start left at ≡ refused n
     breaks left at n e = turn (length (p .bytes)) left at ∙ then-not (onward (length (p .bytes)) left) e
 
--- ---- the loop: the chunks of a value from start on have been read up to a place of a frame
+-- ---- the loop: the chunks of a value from start on have been read up to a place of a frame, and their bytes counted
 
-pub record Chunking (l : List ℕ) (f here : Frame) (text known : Bool) (start total at left : ℕ) : Type 0 where
+-- what the chunks from start on come to
+abbrev chunksFrom : List ℕ → Frame → Bool → Bool → ℕ → ℕ → ℕ → Read Part
+chunksFrom l f text known start left at = chunksAt (suc (length (sourceFrom l f .bytes))) text known (sourceFrom l f) start left at
+
+pub record Chunking (l : List ℕ) (f here : Frame) (text known : Bool) (start total at left count : ℕ) : Type 0 where
   pub from : start ≤ at
+  pub most : count ≤ at
   pub same : Same (sourceFrom l f) (sourceFrom l here) at
-  pub is : chunksAt (suc (length (sourceFrom l f .bytes))) text known (sourceFrom l f) start total start
-      ≡ chunksAt (suc (length (sourceFrom l f .bytes))) text known (sourceFrom l f) start left at
+  pub is : chunksFrom l f text known start total start ≡ chunksFrom l f text known start left at
+  pub counted : count + length (joinedFrom (sourceFrom l f .bytes) at) ≡ length (joinedFrom (sourceFrom l f .bytes) start)
 
-pub chunking-begins : (l : List ℕ) (f : Frame) (text known : Bool) (start total : ℕ) → Chunking l f f text known start total start total
-chunking-begins l f text known start total = record { from = omega arith; same = same-self (sourceFrom l f) start; is = refl }
+pub chunking-begins : (l : List ℕ) (f : Frame) (text known : Bool) (start total : ℕ) → Chunking l f f text known start total start total 0
+chunking-begins l f text known start total =
+    record { from = omega arith; most = omega arith; same = same-self (sourceFrom l f) start; is = refl; counted = omega arith }
 
-module _ {l : List ℕ} {f here : Frame} {text known : Bool} {start total at left : ℕ} (c : Chunking l f here text known start total at left) {r : ChunkRead}
+module _ {l : List ℕ} {f here : Frame} {text known : Bool} {start total at left count : ℕ} (c : Chunking l f here text known start total at left count) {r : ChunkRead}
     (e : r ≡ chunkRead (chunkAt text known (sourceFrom l here) left at)) where
   -- the chunk is that of the first frame's source
   same-chunk : chunkAt text known (sourceFrom l f) left at ≡ chunkAt text known (sourceFrom l here) left at
   same-chunk = agree-is (chunk-agree text known left at (c .same))
 
-  pub chunking-breaks : {n : ℕ} → r ≡ chunk.Refused n → part.Refused n ≡ partRead (chunksAt (suc (length (sourceFrom l f .bytes))) text known (sourceFrom l f) start total start)
-  chunking-breaks q = sym (ap partRead (c .is ∙ breaks text known (sourceFrom l f) start left at _ (same-chunk ∙ chunk-is-not _ e q)))
+  pub chunking-breaks : {n : ℕ} → r ≡ chunk.Refused n → chunks.Refused n ≡ chunksRead (sourceFrom l f) start (chunksFrom l f text known start total start)
+  chunking-breaks q =
+      sym (ap (chunksRead (sourceFrom l f) start) (c .is ∙ breaks text known (sourceFrom l f) start left at _ (same-chunk ∙ chunk-is-not _ e q)))
 
   pub chunking-ends : {to : ℕ} → r ≡ chunk.Last to
-      → part.Whole (record { part = partTo start to; next = to }) ≡ partRead (chunksAt (suc (length (sourceFrom l f .bytes))) text known (sourceFrom l f) start total start)
-  chunking-ends q = sym (ap partRead (c .is ∙ ends text known (sourceFrom l f) start left at _ (same-chunk ∙ last-is _ e q)))
+      → chunks.Whole (record { part = partTo start to; count = count; next = to }) ≡ chunksRead (sourceFrom l f) start (chunksFrom l f text known start total start)
+  chunking-ends {to} q =
+      let last = same-chunk ∙ last-is _ e q in
+      let all : count ≡ length (joinedFrom (sourceFrom l f .bytes) start) =
+      omega (arith, c .counted, ap length (joined-end (sourceFrom l f .bytes) at (chunk-says text known (sourceFrom l f) left at _ _ last .0))) in
+      rw all (sym (ap (chunksRead (sourceFrom l f) start) (c .is ∙ ends text known (sourceFrom l f) start left at _ last)))
 
   pub chunking-last : {to : ℕ} → r ≡ chunk.Last to → start ≤ to
   chunking-last q = let h = c .from in omega (arith, chunk-fits text known (sourceFrom l f) left at _ _ (same-chunk ∙ last-is _ e q) .0)
 
-  pub chunking-fits : {n to : ℕ} → r ≡ chunk.More n to → (at < to) × (to ≤ length (sourceFrom l f .bytes))
-  chunking-fits q = chunk-fits text known (sourceFrom l f) left at _ _ (same-chunk ∙ more-is _ e q .0)
+  pub chunking-says : {n to : ℕ} → r ≡ chunk.More n to
+      → (leAt 4 (drop at (sourceFrom l f .bytes)) ≡ n) × (at + 4 + n ≡ to) × (to ≤ length (sourceFrom l f .bytes))
+  chunking-says q = chunk-says text known (sourceFrom l f) left at _ _ (same-chunk ∙ more-is _ e q .0)
 
-  pub chunking-on : {n to rest : ℕ} {next : Frame} → r ≡ chunk.More n to → rest ≡ left - n → next ≡ frameAt l here to → Chunking l f next text known start total to rest
-  chunking-on {n} {to} q b g =
+  -- a chunk's bytes are counted
+  one-counted : {n to : ℕ} → r ≡ chunk.More n to → length (joinedFrom (sourceFrom l f .bytes) at) ≡ n + length (joinedFrom (sourceFrom l f .bytes) to)
+  one-counted {n} {to} q =
+      let bytes = sourceFrom l f .bytes in
+      let s = chunking-says q in
+      let piece = take n (drop (at + 4) bytes) in
+      let long : length piece ≡ n = length-take-le n (drop (at + 4) bytes) (omega (arith, s .1, s .2, length-drop (at + 4) bytes)) in
+      let turned : joinedFrom bytes at ≡ piece ++ joinedFrom bytes to = joined-turn bytes at (s .0) (more-is (chunkAt text known (sourceFrom l here) left at) e q .1) ∙ rw (s .1) in
+      ap length turned ∙ length-append piece (joinedFrom bytes to) ∙ rw long
+
+  pub chunking-on : {n to rest sum : ℕ} {next : Frame} → r ≡ chunk.More n to → rest ≡ left - n → sum ≡ count + n → next ≡ frameAt l here to
+      → Chunking l f next text known start total to rest sum
+  chunking-on {n} {to} q b d g =
       let m = more-is (chunkAt text known (sourceFrom l here) left at) e q in
-      let h = chunking-fits q in
+      let h = chunking-says q in
       let k = c .from in
       record {
-        from = omega arith;
-        same = rw g (same-then (same-later at (omega arith) (c .same)) (frame-same l here to));
+        from = omega (arith, h .1);
+        most = omega (arith, h .1, c .most);
+        same = rw g (same-then (same-later at (omega (arith, h .1)) (c .same)) (frame-same l here to));
         is = c .is ∙ goes-on text known (sourceFrom l f) start left at n to (same-chunk ∙ m .0, m .1) ∙ rw b;
+        counted = omega (arith, c .counted, one-counted q);
       }

@@ -3,6 +3,7 @@ pub mod Chunks
 pub mod CodeReads
 pub mod CodeTypes
 pub mod CodeSigns
+pub mod Joined
 pub mod CodeChunks
 pub mod Inside
 pub mod Agree

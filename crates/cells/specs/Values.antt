@@ -4,7 +4,7 @@ use Prim.Native.Nat.{ℕ, zero, suc}
 use mathlib.Core.Bool.{cond}
 use mathlib.Core.List.{List, [], _++_}
 use lib.Dec.{eqb}
-use lib.ListN.{take, drop}
+use lib.ListN.{length, take, drop}
 use Rattle.wire.specs.Le.{leAt}
 use Rattle.wire.specs.Part.{partBytes}
 use Rattle.token.specs.Tokens as sent
@@ -18,6 +18,10 @@ chunkBytes (suc turns) s =
     let n = leAt 4 s in
     let rest = take n (drop 4 s) ++ chunkBytes turns (drop n (drop 4 s)) in
     cond (eqb n 0) [] rest
+
+-- the same of chunks that begin at a place of some bytes
+unfoldable pub joinedFrom : List ℕ → ℕ → List ℕ
+joinedFrom bytes at = chunkBytes (length bytes) (drop at bytes)
 
 abbrev pub valueMeaning : List ℕ → Value → sent.Value
 valueMeaning packet (value.Number n) = sent.number n

@@ -1,7 +1,6 @@
 // Column types and cells, read at a place (MS-TDS 2.2.5.4.2 and 2.2.5.4.3, 2.2.5.6 TYPE_INFO, 2.2.5.2.3 PLP_BODY). They
 // know nothing of headers and positions.
 use payload::NumberRead;
-use payload::PartAt;
 use payload::PartRead;
 use payload::frames::Frame;
 use payload::frames::frame_at;
@@ -23,9 +22,9 @@ ghost use Rattle.token.specs.Types.{lengthWidth};
 ghost use Rattle.token.specs.Tokens.{signed};
 ghost use Rattle.payload.specs.Places.{whole, numberAt};
 ghost use Rattle.payload.specs.Frames.{sourceFrom};
-ghost use Rattle.payload.specs.Answers.{numberRead, partRead, Below};
+ghost use Rattle.payload.specs.Answers.{numberRead, Below};
 ghost use Rattle.cells.specs.Cells.{isCode, isType, typeAt, integerAt, boundedAt, isChunk, isLast, chunkAt, chunksAt, maxAt, cellAt};
-ghost use Rattle.cells.specs.Answers.{typeRead, cellRead};
+ghost use Rattle.cells.specs.Answers.{typeRead, cellRead, chunksRead};
 ghost use Rattle.cells.specs.Code.{chunkRead, signOf};
 
 // A cell's value, by case. A Max part runs from the first chunk length through the zero one.
@@ -57,9 +56,9 @@ const MAX: u16 = 0xFFFF;
 // The length of a bounded text that is null, and the totals of a Max value that is null or of unknown length.
 const NULL_LENGTH: u64 = 0xFFFF;
 
-const NULL_TOTAL: u64 = 0xFFFF_FFFF_FFFF_FFFF;
+pub const NULL_TOTAL: u64 = 0xFFFF_FFFF_FFFF_FFFF;
 
-const UNKNOWN_TOTAL: u64 = 0xFFFF_FFFF_FFFF_FFFE;
+pub const UNKNOWN_TOTAL: u64 = 0xFFFF_FFFF_FFFF_FFFE;
 
 // A column's type, with the place after it.
 pub struct TypeAt {
@@ -281,8 +280,8 @@ fn max_at(lent: &[u8], frame: Frame, at: usize, text: bool) -> CellRead
         total.value != UNKNOWN_TOTAL,
         total.value as usize,
     ) {
-        PartRead::Refused(n) => CellRead::Refused(n),
-        PartRead::Whole(read) => {
+        ChunksRead::Refused(n) => CellRead::Refused(n),
+        ChunksRead::Whole(read) => {
             let part = read.part;
             CellRead::Whole(Value::Max(part), read.next)
         },
@@ -296,37 +295,53 @@ fn goes_with(n: u64, text: bool) -> bool
     (n % 2 == 0) | !text
 }
 
+// The chunks of a Max value: the part from the first chunk length through the zero one, how many bytes the chunks hold
+// together, and the place after them.
+pub struct ChunksAt {
+    pub part: Part,
+    pub count: usize,
+    pub next: usize,
+}
+
+pub enum ChunksRead {
+    Whole(ChunksAt),
+    Refused(u8),
+}
+
 // The chunks of a Max value from a place on, up to a zero length, where they have a total that is known or not. Each is read from
 // the packet in which the one before it ended, so that no header is passed for every chunk.
-fn chunks_at(
+pub fn chunks_at(
     lent: &[u8],
     frame: Frame,
     start: usize,
     text: bool,
     known: bool,
     total: usize,
-) -> PartRead
-    ensures { λ r. ⌜ r ≡ partRead (chunksAt (suc (length (sourceFrom (now (lent .entry)) frame .bytes))) text known (sourceFrom (now (lent .entry)) frame) start total start) ⌝ }
+) -> ChunksRead
+    ensures { λ r. ⌜ r ≡ chunksRead (sourceFrom (now (lent .entry)) frame) start (chunksAt (suc (length (sourceFrom (now (lent .entry)) frame .bytes))) text known (sourceFrom (now (lent .entry)) frame) start total start) ⌝ }
 {
     let mut here = frame;
     let mut at = start;
     let mut left = total;
+    let mut count = 0;
     loop {
         match chunk_at(lent, here, at, text, known, left) {
             ChunkRead::Refused(n) => {
-                return PartRead::Refused(n);
+                return ChunksRead::Refused(n);
             },
             ChunkRead::Last(next) => {
-                return PartRead::Whole(PartAt {
+                return ChunksRead::Whole(ChunksAt {
                     part: Part {
                         start,
                         len: next - start,
                     },
+                    count,
                     next,
                 });
             },
             ChunkRead::More { len, next } => {
                 left = minus(left, len);
+                count += len;
                 here = frame_at(lent, here, next);
                 at = next;
             },

@@ -240,8 +240,8 @@ module _ {p : Source} (short : length (p .bytes) < 65536) {at : Place} {fs : Lis
     value = value.Max (record { start = at + 8; len = past-chunks (at + 8) cs - (at + 8) });
     place = past-chunks (at + 8) cs;
     onward = omega (arith, past-is (at + 8) cs);
-    is = max-type p at c e (ok .0) ∙ max-at short fs (eqb (c .code) 0xE7) cs (ok .1) at a;
-    means = rw (max-bytes short fs (eqb (c .code) 0xE7) cs (ok .1) at a);
+    is = max-type p at c e (ok .0) ∙ max-at (omega arith) fs (eqb (c .code) 0xE7) cs (ok .1) at a;
+    means = rw (max-bytes (omega arith) fs (eqb (c .code) 0xE7) cs (ok .1) at a);
     here = after-chunks (at + 8) cs (past-word a);
   }
   valued noLong ok a = record {

@@ -86,7 +86,7 @@ emptyChunk = 15
 abbrev pub nameTooLong : ℕ
 nameTooLong = 16
 
--- a result is over 65,535 bytes
+-- a result is over 65,535 bytes, or a label over 65,535 characters
 abbrev pub resultTooLong : ℕ
 resultTooLong = 17
 
@@ -108,6 +108,10 @@ oddText = 21
 abbrev pub notUtf16 : ℕ
 notUtf16 = 22
 
+-- a unit of a label has no byte in Windows-1252
+abbrev pub unitWithoutByte : ℕ
+unitWithoutByte = 36
+
 -- a packet size is under 512 or over 32,767 bytes
 abbrev pub packetSize : ℕ
 packetSize = 32
@@ -126,7 +130,7 @@ notNext = 33
 abbrev pub endBitWrong : ℕ
 endBitWrong = 34
 
--- a reply is cut within a token or before the last DONE, or a position is one that is refused
+-- a reply is cut within a token or before the last DONE, a position is one that is refused, or a label's value is cut
 abbrev pub cutShort : ℕ
 cutShort = 24
 
@@ -134,7 +138,7 @@ cutShort = 24
 abbrev pub unknownToken : ℕ
 unknownToken = 25
 
--- an inner length or a type is wrong, or bytes follow the last DONE
+-- an inner length or a type is wrong, or bytes follow the last DONE or a label's value
 abbrev pub innerWrong : ℕ
 innerWrong = 26
 

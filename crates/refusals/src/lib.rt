@@ -68,7 +68,7 @@ pub const EMPTY_CHUNK: u8 = 15;
 // A column, server or procedure name is over 255 units.
 pub const NAME_TOO_LONG: u8 = 16;
 
-// A result is over 65,535 bytes.
+// A result is over 65,535 bytes, or a label over 65,535 characters.
 pub const RESULT_TOO_LONG: u8 = 17;
 
 // ---- Caller
@@ -85,6 +85,9 @@ pub const ODD_TEXT: u8 = 21;
 // A text argument is not UTF-16.
 pub const NOT_UTF16: u8 = 22;
 
+// A unit of a label has no byte in Windows-1252.
+pub const UNIT_WITHOUT_BYTE: u8 = 36;
+
 // A packet size is under 512 or over 32,767 bytes.
 pub const PACKET_SIZE: u8 = 32;
 
@@ -99,13 +102,13 @@ pub const NOT_THE_NEXT: u8 = 33;
 // A reply must go on past a packet's payload, and bytes follow the end bit, or none follow and there is no end bit.
 pub const END_BIT_WRONG: u8 = 34;
 
-// A reply is cut within a token or before the last DONE, or a position is one that is refused.
+// A reply is cut within a token or before the last DONE, a position is one that is refused, or a label's value is cut.
 pub const CUT: u8 = 24;
 
 // A byte begins no token.
 pub const UNKNOWN_TOKEN: u8 = 25;
 
-// An inner length or a type is wrong, or bytes follow the last DONE.
+// An inner length or a type is wrong, or bytes follow the last DONE or a label's value.
 pub const INNER_WRONG: u8 = 26;
 
 // A set has over 128 columns.

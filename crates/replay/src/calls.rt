@@ -2,6 +2,7 @@
 use crate::builds;
 use crate::captures;
 use crate::headers;
+use crate::labels;
 use crate::logins;
 use crate::procedures;
 use crate::replies;
@@ -24,6 +25,9 @@ pub(crate) fn holds(line: &[u8]) -> bool {
     if check::same(name, b"write_header") {
         return headers::holds(line);
     }
+    if is_label(name) {
+        return labels::holds(line, name);
+    }
     let mut input = spaces::zeros();
     if follows_number(name) {
         let n = words::bytes_at(line, 2, &mut input);
@@ -35,6 +39,11 @@ pub(crate) fn holds(line: &[u8]) -> bool {
     }
     let n = words::bytes_at(line, 1, &mut input);
     told_holds(line, name, wire::part_of(&input, first(n)))
+}
+
+// Whether a call reads or writes an event label.
+fn is_label(name: &[u8]) -> bool {
+    check::same(name, b"read_label") | check::same(name, b"write_label")
 }
 
 // Whether a number stands between the name of a call and its input.
@@ -105,8 +114,13 @@ fn tell_request(name: &[u8], input: &[u8], out: &mut [u8]) -> usize {
 
 // Whether some bytes are those that the line holds as its answer.
 pub(crate) fn same_bytes(line: &[u8], bytes: &[u8]) -> bool {
+    same_word(words::answer(line), bytes)
+}
+
+// Whether some bytes are those that a word stands for.
+pub(crate) fn same_word(word: &[u8], bytes: &[u8]) -> bool {
     let mut expected = spaces::zeros();
-    let n = words::bytes(words::answer(line), &mut expected);
+    let n = words::bytes(word, &mut expected);
     check::same(bytes, wire::part_of(&expected, first(n)))
 }
 

@@ -5,6 +5,7 @@ mod builds;
 mod calls;
 mod captures;
 mod headers;
+mod labels;
 mod logins;
 mod procedures;
 mod replies;

@@ -26,7 +26,7 @@ use Rattle.emission.specs.Refusal.{pieceFault, faultIn}
 use Rattle.token.specs.Names.{longName}
 use Rattle.emission.proofs.Sizes.{fault-cat}
 use Rattle.fit.specs.Records.{cellsIn}
-use Rattle.round_trip.specs.Octets.{Bytes}
+use Rattle.wire.specs.Octets.{Bytes}
 use Rattle.round_trip.proofs.Ranges.{Payloads}
 
 -- ---- faults

@@ -34,8 +34,8 @@ use Rattle.fit.proofs.Inverts.{Suits, number, text, nvarcharMax, noMax, varchar
 use Rattle.cells.proofs.Chunks.{ChunksOk}
 use Rattle.reader.proofs.WellFormed.{ColumnType, ColumnOk, CellOk, MessageOk}
 use Rattle.reader.proofs.Sendable.{sent-type, even-text, column-ok, message-ok}
-use Rattle.round_trip.specs.Octets.{Bytes}
-use Rattle.round_trip.proofs.Ranges.{in-range, bytes-drop}
+use Rattle.wire.specs.Octets.{Bytes}
+use Rattle.wire.proofs.Octets.{in-range, bytes-drop}
 use Rattle.round_trip.proofs.Values.{value-byte}
 use Rattle.round_trip.proofs.Accepted.{no-test, short-name, neither, one-text, three-texts, Whole}
 

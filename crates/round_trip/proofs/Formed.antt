@@ -36,7 +36,7 @@ use Rattle.fit.specs.Records.{cellsIn, beginMisfits, misfitsFrom, misfitsIn}
 use Rattle.fit.proofs.Inverts.{Pairless, Match, noCell, match-cell, match-chunk, match-over, match-end, suits, set-fits, row-fits, fits-set, fits-row, fits-other, fits-first, fits-yes}
 use Rattle.reader.proofs.WellFormed.{ColumnType, among, between, inRow, WF, WellFormed}
 use Rattle.reader.proofs.Sendable.{done-ok, metadata-then, column-then, row-then, cell-then, message-then, done-then, done-last}
-use Rattle.round_trip.specs.Octets.{Bytes}
+use Rattle.wire.specs.Octets.{Bytes}
 use Rattle.round_trip.proofs.Ranges.{Payloads, payloads}
 use Rattle.round_trip.proofs.Accepted.{no-fault, no-test, fault-first, fault-parts, short-name, taken, no-cells, Columned, columned, whole, ErrorOk, leading-error, terminal-error, by-error}
 use Rattle.round_trip.proofs.Fields.{typeOf, columnType, column-there, column-fits, cellIn, cell-there, info-fits, error-fits, cell-ok}

@@ -15,7 +15,7 @@ use Rattle.reader.specs.Positions.{freshPosition}
 use Rattle.reader.specs.Reader.{stepOf, answerOf}
 use Rattle.reader.proofs.Runs.{answer-first, answer-next}
 use Rattle.round_trip.specs.declared.Kth.the-variants.{Answered, Refused}
-use Rattle.round_trip.specs.Octets.{Bytes}
+use Rattle.wire.specs.Octets.{Bytes}
 use Rattle.round_trip.specs.Running.{kthOf, ReadBack}
 use Rattle.round_trip.proofs.RoundTrip.{round-trip}
 

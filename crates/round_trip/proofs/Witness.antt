@@ -35,7 +35,7 @@ use Rattle.result.specs.declared.Built.the-variants.{Written, Refused}
 use Rattle.result.specs.Built.{repliesOf, roomOf, roomAt, builtOf}
 use Rattle.fit.specs.Misfits.{cellFits, wrongCells, wrongInRow, columnFits, wrongColumns, typesIn}
 use Rattle.fit.specs.Misfits.{rowsMisfits, setMisfits, setsMisfits, misfits, fitOf}
-use Rattle.round_trip.specs.Octets.{Bytes}
+use Rattle.wire.specs.Octets.{Bytes}
 use Rattle.round_trip.specs.RoundTrip.{single, packetsLeft, Sent, Reads}
 use Rattle.round_trip.specs.Data.{valueBy, dataIn, countsIn, dataOf, countsOf, present}
 use Rattle.round_trip.proofs.RoundTrip.{round-trip}

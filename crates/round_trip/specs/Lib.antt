@@ -1,4 +1,3 @@
-pub mod Octets
 pub mod RoundTrip
 pub mod AnySize
 pub mod Joined

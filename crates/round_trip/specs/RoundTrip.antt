@@ -16,7 +16,7 @@ use Rattle.payload.specs.Packets.{packetsIn, payloadOf}
 use Rattle.reader.specs.Positions.{freshPosition}
 use Rattle.reader.specs.Reader.{answerOf}
 use Rattle.reader.specs.Meaning.{meaningOf, kth}
-use Rattle.round_trip.specs.Octets.{Bytes}
+use Rattle.wire.specs.Octets.{Bytes}
 
 -- how a reply is sent: as one packet, or in packets of a size
 pub data Packing : Type 0 where

@@ -10,6 +10,7 @@ use mir.Syntax.{w64}
 use mir.Val.{toZ, ofZ}
 use mir.Facts.{toZ-ofZ, toZ-pos}
 use borrow.Author.Tests.{lt-ltb, le-ltb}
+use Rattle.refusals.specs.Numbers.{bufferTooShort}
 use Rattle.wire.specs.Over.{overwrite}
 use Rattle.station.specs.Answer.{Outcome, answers, refuses, numberOf, lent, filled, answerOf, slotsOf}
 
@@ -41,6 +42,40 @@ written n out xs left h fits e = simp (le-ltb _ _ h) (toZ-pos w64 fits, e)
 pub silent : {p : Outcome} (out : List ℕ) → answers 0 [] ≡ p → Ended p out out (toZ w64 0)
 unfolding overwrite
 silent out q = rw (sym q) (written 0 out [] out (omega arith) (omega arith) refl)
+
+-- a callee that was lent the same slots: what it said is the outcome with them lent, and what it left is what that leaves
+pub record ByCallee (o : Outcome) (out left : List ℕ) (said : Outcome) : Type 0 where
+  pub says : said ≡ lent o out
+  pub leaves : left ≡ filled said out
+
+-- with slots enough, with too few, and where it refuses whatever is lent
+pub lent-enough : (n : ℕ) (out xs : List ℕ) → length xs ≤ length out → ByCallee (answers n xs) out (overwrite out 0 xs) (answers n xs)
+unfolding lent filled
+lent-enough n out xs h = record { says = simp (le-ltb _ _ h); leaves = refl }
+
+pub lent-few : (n : ℕ) (out xs : List ℕ) → length out < length xs → ByCallee (answers n xs) out out (refuses bufferTooShort)
+unfolding lent filled
+lent-few n out xs h = record { says = simp (lt-ltb _ _ h); leaves = refl }
+
+pub lent-any : (n : ℕ) (out : List ℕ) → ByCallee (refuses n) out out (refuses n)
+unfolding lent filled
+lent-any n out = record { says = refl; leaves = refl }
+
+module _ {o : Outcome} {out left : List ℕ} where
+  left-by : {said : Outcome} → ByCallee o out left said → left ≡ slotsOf o out
+  unfolding slotsOf
+  left-by h = h .leaves ∙ ap (λ (x : Outcome). filled x out) (h .says)
+
+  -- the export hands on its number
+  pub callee-told : {n : ℕ} {xs : List ℕ} → ByCallee o out left (answers n xs) → n < 2 ^ 63 → Ended o out left (toZ w64 n)
+  unfolding answerOf numberOf
+  callee-told h fits = (toZ-pos w64 fits ∙ ap numberOf (h .says), left-by h)
+
+  -- or its refusal
+  pub callee-refused : {n : ℕ} {r : ℤ} → ByCallee o out left (refuses n) → mag r < 2 ^ 63 → r ≡ numberOf (refuses n)
+      → Ended o out left (toZ w64 (ofZ w64 r))
+  unfolding answerOf
+  callee-refused h fits e = (toZ-ofZ {w = w64} (record { sfits = fits }) ∙ e ∙ ap numberOf (h .says), left-by h)
 
 -- what a callee told of a value, handed on
 pub handed : {A : Type 0} (outcome : A → Outcome) {a b : A} {r : ℤ} → mag r < 2 ^ 63 → a ≡ b → r ≡ numberOf (outcome a)

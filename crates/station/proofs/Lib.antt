@@ -10,5 +10,7 @@ pub mod TypeSlots
 pub mod Typed
 pub mod Lasting
 pub mod Joins
+pub mod LabelEnds
+pub mod LabelRooms
 pub mod Captures
 pub mod Misfits

@@ -8,3 +8,4 @@ pub mod Steps
 pub mod Stepping
 pub mod Procedures
 pub mod Packets
+pub mod Labels

@@ -3,6 +3,7 @@
 // first slots are written, and fewer slots than needed is -20, after all other refusals.
 // A call's contract is its outcome (specs/) as answer and as slots; it ends by `refused` or by `answered`.
 mod build;
+mod labels;
 mod logins;
 mod packets;
 mod procedures;

@@ -5,3 +5,4 @@ pub mod Rising
 pub mod Over
 pub mod Fields
 pub mod Parts
+pub mod Octets

@@ -4,3 +4,4 @@ pub mod Over
 pub mod Fields
 pub mod Part
 pub mod Even
+pub mod Octets

@@ -34,6 +34,7 @@ mod utf16;
 include!(concat!(env!("OUT_DIR"), "/rust_modules.rs"));
 
 mod compact;
+mod labels;
 pub mod mutate;
 mod procedures;
 mod reading;

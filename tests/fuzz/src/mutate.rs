@@ -6,6 +6,7 @@ use crate::answers::reply::reply;
 use crate::inputs::login::{random_feature, random_login, scattered_login};
 use crate::inputs::request::*;
 use crate::inputs::script::{damaged, random_record, random_script};
+use crate::labels;
 use crate::procedures;
 use crate::random::Random;
 use crate::reading::HEADER;
@@ -26,6 +27,7 @@ pub fn mutated(target: &str, input: &[u8], most: usize, seed: u64, own: Own) -> 
         "steps" if random.one_in(8) => another_reply(&mut random),
         "steps" if random.one_in(2) => packets(&mut random, input),
         "rpc" if random.one_in(2) => procedure(&mut random, input),
+        "labels" if random.one_in(8) => Some(labels::another(&mut random)),
         _ => None,
     };
     shaped.filter(|bytes| bytes.len() <= most).unwrap_or_else(|| own(input, most))

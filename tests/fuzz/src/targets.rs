@@ -4,6 +4,7 @@
 use crate::compact::Draw;
 use crate::compare::Check;
 use crate::groups::{capture, header, login, packets, request, result, text};
+use crate::labels;
 use crate::procedures;
 use crate::replies;
 use crate::script::records;
@@ -13,9 +14,12 @@ use crate::wall::Wall;
 /// script: a script's bytes. records: a script of right lengths, in the compact form. login: a
 /// login's body. request: a body or payload for all other readers. response: a choice and arguments.
 /// steps: packets, and slots of a position. rpc: a number, and the body of a procedure call. packets: a packet
-/// size, two bytes, and a script of right lengths, in the compact form. capture: a capture's bytes.
-pub const NAMES: [&str; 9] =
-    ["script", "records", "login", "request", "response", "steps", "rpc", "packets", "capture"];
+/// size, two bytes, and a script of right lengths, in the compact form. capture: a capture's bytes. labels: a
+/// number of bytes to lend, and a label's value and text, as they are or in the compact form.
+pub const NAMES: [&str; 10] = [
+    "script", "records", "login", "request", "response", "steps", "rpc", "packets", "capture",
+    "labels",
+];
 
 pub struct Target {
     name: &'static str,
@@ -42,6 +46,7 @@ impl Target {
             "rpc" => procedures::compare_one(input, wall),
             "packets" => in_packets(input, wall),
             "capture" => capture::compare_one(wall.lend(input)),
+            "labels" => labels::compare_one(input, &mut self.walls),
             _ => replies::compare_one(input, &mut self.walls),
         }
     }

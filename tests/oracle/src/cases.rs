@@ -1,8 +1,9 @@
 //! The cases of document 01 and of its readings, held against the Rust and the script decoder
-//! without the library.
+//! without the library; of labels, held against the second reader and writer.
 
 use crate::answers::Part;
 use crate::answers::counted::places;
+use crate::answers::labels;
 use crate::answers::reply::{accepted, packet, reply, rust_packet};
 use crate::answers::request::{batch, descriptor, fedauth, transaction};
 use crate::hex::{hex, unhex};
@@ -300,6 +301,73 @@ fn a_terminal_script_has_the_status_of_the_rust() {
     let script = [set(&[]), error(TERMINAL, 8, 9, b"e\0"), set(&[])];
     let script = accepted(&written(&script)).unwrap();
     assert_eq!(packet(&script).unwrap(), rust_packet(&script)[..]);
+}
+
+/// Document 02, 2026-07.
+#[test]
+fn labels_that_are_read() {
+    let read = |digits: &str| labels::read(&unhex(digits)).map(|text| text.map(|it| hex(&it)));
+    let text = |digits: &str| Ok(Some(spaced(digits)));
+    assert_eq!(read("FEFFFFFFFFFFFFFF 01000000 80 00000000"), text("AC20"));
+    assert_eq!(read("0200000000000000 01000000 41 01000000 81 00000000"), text("4100 8100"));
+    assert_eq!(read("0000000000000000 00000000"), text(""));
+    assert_eq!(read("FEFFFFFFFFFFFFFF 00000000"), text(""));
+    assert_eq!(read("FFFFFFFFFFFFFFFF"), Ok(None));
+    for (digits, number) in [
+        ("", VALUE_CUT),
+        ("FFFFFFFFFFFFFF", VALUE_CUT),
+        ("0000000000000000", VALUE_CUT),
+        ("0100000000000000 010000", VALUE_CUT),
+        ("0100000000000000 01000000", VALUE_CUT),
+        ("0200000000000000 02000000 41", VALUE_CUT),
+        ("0100000000000000 01000000 41", VALUE_CUT),
+        ("FDFFFFFFFFFFFFFF FFFFFFFF 41", VALUE_CUT),
+        ("FFFFFFFFFFFFFFFF FF", VALUE_WRONG),
+        ("0100000000000000 02000000", VALUE_WRONG),
+        ("0100000000000000 00000000", VALUE_WRONG),
+        ("0100000000000000 01000000 41 01000000", VALUE_WRONG),
+        ("0200000000000000 01000000 41 00000000", VALUE_WRONG),
+        ("0000000000000000 00000000 00", VALUE_WRONG),
+        ("FEFFFFFFFFFFFFFF 00000000 00000000", VALUE_WRONG),
+    ] {
+        assert_eq!(read(digits), Err(number), "{digits}");
+    }
+}
+
+/// Refusals of a long value, the last of which is its length: what stands after it goes before that.
+#[test]
+fn labels_of_the_most_characters() {
+    let value = |total: u64, count| labels::value(total, &[&vec![0x9F; count]]);
+    let text = labels::read(&value(65_535, 65_535)).unwrap().unwrap();
+    assert_eq!(text, [0x78, 0x01].repeat(65_535));
+    assert_eq!(labels::write(&text), Ok(value(65_535, 65_535)));
+    for total in [65_536, labels::UNKNOWN] {
+        let long = value(total, 65_536);
+        assert_eq!(labels::read(&long), Err(LONG_RESULT));
+        assert_eq!(labels::read(&long[..long.len() - 1]), Err(VALUE_CUT));
+        assert_eq!(labels::read(&[&long[..], &[0]].concat()), Err(VALUE_WRONG));
+    }
+    assert_eq!(labels::read(&value(65_537, 65_536)), Err(VALUE_WRONG));
+    let mut long = [&text[..], &[0x41, 0x00]].concat();
+    assert_eq!(labels::write(&long), Err(LONG_RESULT));
+    long.extend([0x80, 0x00]);
+    assert_eq!(labels::write(&long), Err(NO_BYTE));
+    long.push(0x00);
+    assert_eq!(labels::write(&long), Err(ODD_ARGUMENT));
+}
+
+#[test]
+fn labels_that_are_written() {
+    let write = |digits: &str| labels::write(&unhex(digits));
+    assert_eq!(write("AC20"), Ok(unhex("0100000000000000 01000000 80 00000000")));
+    assert_eq!(write("8100 4100"), Ok(unhex("0200000000000000 02000000 8141 00000000")));
+    assert_eq!(write(""), Ok(vec![0; 12]));
+    for unit in ["8000", "9F00", "0001", "FFFF", "3DD8 00DE", "00DE", "3DD8"] {
+        assert_eq!(write(unit), Err(NO_BYTE), "{unit}");
+        assert_eq!(write(&format!("4100 {unit} 4100")), Err(NO_BYTE), "{unit}");
+        assert_eq!(write(&format!("{unit} 41")), Err(ODD_ARGUMENT), "{unit}");
+    }
+    assert_eq!(write("41"), Err(ODD_ARGUMENT));
 }
 
 #[test]

@@ -14,7 +14,8 @@
         feature = "result",
         feature = "response",
         feature = "packets",
-        feature = "capture"
+        feature = "capture",
+        feature = "labels"
     )),
     allow(dead_code, unused_macros)
 )]
@@ -42,7 +43,8 @@ use std::process::ExitCode;
 use std::time::Instant;
 
 const USAGE: &str = "\
-oracle [quick|large] [header|text|request|login|result|response|packets|capture ..] [seed=N] [trace]
+oracle [quick|large] [GROUP ..] [seed=N] [trace]
+    header, text, request, login, result, response, packets, capture, labels
 oracle vectors N [seed=N]
 oracle answers
 oracle tokens N [seed=N]";

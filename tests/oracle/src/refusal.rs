@@ -22,12 +22,18 @@ pub const RECORD_NOT_UTF16: u8 = 14;
 pub const EMPTY_CHUNK: u8 = 15;
 /// A column, server or procedure name over 255 units.
 pub const LONG_NAME: u8 = 16;
-/// A result over 65,535 bytes.
+/// A result over 65,535 bytes, or a label over 65,535 characters.
 pub const LONG_RESULT: u8 = 17;
 pub const SHORT_BUFFER: u8 = 20;
 pub const ODD_ARGUMENT: u8 = 21;
 pub const ARGUMENT_NOT_UTF16: u8 = 22;
+/// A field of a value that is cut.
+pub const VALUE_CUT: u8 = 24;
+/// A value whose total is not the sum of its chunks, or bytes after a value.
+pub const VALUE_WRONG: u8 = 26;
 /// A packet size under 512 or over 32,767 bytes.
 pub const PACKET_SIZE: u8 = 32;
 /// A headers length of 0 to 3, which cannot hold its own four bytes.
 pub const HEADERS_TOO_SMALL: u8 = 35;
+/// A unit that no byte of Windows-1252 stands for.
+pub const NO_BYTE: u8 = 36;

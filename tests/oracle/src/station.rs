@@ -79,6 +79,10 @@ exports! {
     "capture":
     station_capture_marks(capture: bytes, out: slots);
 
+    "labels":
+    station_read_label(value: bytes, buffer: buffer);
+    station_write_label(text: bytes, buffer: buffer);
+
     "login":
     station_parse_login7(body: bytes, ids: buffer, out: slots);
     station_database(body: bytes, fallback: bytes, out: slots);

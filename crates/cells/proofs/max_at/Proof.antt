@@ -1,7 +1,8 @@
 -- `cells::max_at` meets its contract. Assumes nothing.
 use mathlib.Core.Path.{sym, ap, _∙_}
 use borrow.Author.Tests.{eq-eqb, ne-eqb, not-true, not-false}
-use Rattle.payload.proofs.CodeReads.{number-got, number-not, must-hold, must-not, if-so, if-not, then-got, then-not, part-is, part-is-not}
+use Rattle.payload.proofs.CodeReads.{number-got, number-not, must-hold, must-not, if-so, if-not, then-got, then-not}
+use Rattle.cells.proofs.CodeChunks.{chunks-is, chunks-is-not}
 use Rattle.cells.specs.Answers.{cellRead}
 use Rattle.cells.specs.Cells.{maxAt}
 use borrow.Author.Needs.{needs}
@@ -43,11 +44,11 @@ enum-known-read c = search needs
 
 returns-4 : tie.Need-returns-4
 unfolding maxAt
-returns-4 c = sym (ap cellRead (number-got _ _ _ _ (c .before .before .before .before .before .before .before .before .before .before .before .before .u64-at .ensures .0) (c .before .before .before .before .before .before .before .before .before .before .n2 .given .1) ∙ if-not _ _ (ne-eqb _ _ (c .before .before .before .before .before .before .before .if1 .left)) ∙ must-hold _ _ (sym (c .before .before .before .before .before .before .goes-with .ensures) ∙ not-false _ (c .before .before .before .before .before .if2 .left)) ∙ then-not _ (part-is-not _ (c .before .before .before .chunks-at .ensures) (c .before .n3 .given .1))))
+returns-4 c = sym (ap cellRead (number-got _ _ _ _ (c .before .before .before .before .before .before .before .before .before .before .before .before .u64-at .ensures .0) (c .before .before .before .before .before .before .before .before .before .before .n2 .given .1) ∙ if-not _ _ (ne-eqb _ _ (c .before .before .before .before .before .before .before .if1 .left)) ∙ must-hold _ _ (sym (c .before .before .before .before .before .before .goes-with .ensures) ∙ not-false _ (c .before .before .before .before .before .if2 .left)) ∙ then-not _ (chunks-is-not _ _ _ (c .before .before .before .chunks-at .ensures) (c .before .n3 .given .1))))
 
 returns-5 : tie.Need-returns-5
 unfolding maxAt
-returns-5 c = sym (ap cellRead (number-got _ _ _ _ (c .before .before .before .before .before .before .before .before .before .before .before .before .before .u64-at .ensures .0) (c .before .before .before .before .before .before .before .before .before .before .before .n2 .given .1) ∙ if-not _ _ (ne-eqb _ _ (c .before .before .before .before .before .before .before .before .if1 .left)) ∙ must-hold _ _ (sym (c .before .before .before .before .before .before .before .goes-with .ensures) ∙ not-false _ (c .before .before .before .before .before .before .if2 .left)) ∙ then-got _ (part-is _ (c .before .before .before .before .chunks-at .ensures) (c .before .before .read .given .1))))
+returns-5 c = sym (ap cellRead (number-got _ _ _ _ (c .before .before .before .before .before .before .before .before .before .before .before .before .before .u64-at .ensures .0) (c .before .before .before .before .before .before .before .before .before .before .before .n2 .given .1) ∙ if-not _ _ (ne-eqb _ _ (c .before .before .before .before .before .before .before .before .if1 .left)) ∙ must-hold _ _ (sym (c .before .before .before .before .before .before .before .goes-with .ensures) ∙ not-false _ (c .before .before .before .before .before .before .if2 .left)) ∙ then-got _ (chunks-is _ _ _ (c .before .before .before .before .chunks-at .ensures) (c .before .before .read .given .1) .0)))
 
 pub max-at-spec : {M : Type 1} → statement M
 max-at-spec =

@@ -3,12 +3,14 @@
 pub mod capture;
 pub mod counted;
 pub mod header;
+pub mod labels;
 pub mod login;
 pub mod packets;
 pub mod reply;
 pub mod request;
 pub mod response;
 pub mod text;
+pub mod windows1252;
 
 /// A part of the input: start and length in bytes.
 #[derive(Clone, Copy, Debug, PartialEq, Eq)]

@@ -4,6 +4,8 @@
 pub mod capture;
 #[cfg(feature = "header")]
 pub mod header;
+#[cfg(feature = "labels")]
+pub mod labels;
 #[cfg(feature = "login")]
 pub mod login;
 #[cfg(feature = "packets")]
@@ -41,7 +43,7 @@ impl Size {
 pub type Group = fn(Size) -> Vec<Check>;
 
 /// All groups by name; those that are not built in have no function.
-pub fn groups() -> [(&'static str, Option<Group>); 8] {
+pub fn groups() -> [(&'static str, Option<Group>); 9] {
     macro_rules! group {
         ($module:ident, $name:literal) => {{
             #[cfg(feature = $name)]
@@ -60,5 +62,6 @@ pub fn groups() -> [(&'static str, Option<Group>); 8] {
         group!(response, "response"),
         group!(packets, "packets"),
         group!(capture, "capture"),
+        group!(labels, "labels"),
     ]
 }

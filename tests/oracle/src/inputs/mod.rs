@@ -2,6 +2,7 @@
 
 pub mod capture;
 pub mod header;
+pub mod labels;
 pub mod login;
 pub mod misfit;
 pub mod request;

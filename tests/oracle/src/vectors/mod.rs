@@ -3,6 +3,7 @@
 //! arguments decimal; `tests/vectors/README.md` has the answers of each function.
 
 mod builds;
+mod labels;
 mod reads;
 mod results;
 
@@ -26,6 +27,7 @@ pub struct Vectors {
 pub fn print(seed: u64, count: usize) {
     let vectors = Vectors { seed, count };
     reads::print(vectors);
+    labels::print(vectors);
     results::print(vectors);
     builds::print(vectors);
 }

@@ -4,7 +4,8 @@ use mathlib.Core.Path.{sym, _∙_}
 use native.Mathlib.Omega.{arith}
 use lib.ListN.{length}
 use Rattle.payload.proofs.Payloads.{within}
-use Rattle.station.proofs.Joins.{joined, not-joined}
+use Rattle.station.proofs.Ends.{callee-told, callee-refused}
+use Rattle.station.proofs.Joins.{joined}
 use borrow.Author.Needs.{needs}
 use Rattle.station.proofs.packets.station_payload.Statement.{statement}
 use Rattle.station.proofs.packets.station_payload.Tie as tie
@@ -16,7 +17,8 @@ enum-known-length : tie.Need-enum-known-length
 enum-known-length c = search needs
 
 cast-result : tie.Need-cast-result
-cast-result c = let m = c .before .before .before .before .before in
+cast-result c =
+    let m = c .before .before .before .before .before in
     let a = m .before .before .before .before .args in
     omega (arith, within (now (a .packets)) (length (now (a .buf))) (sym (c .before .length .given .1) ∙ m .join .ensures .0))
 
@@ -30,18 +32,22 @@ same-length : tie.Need-same-length
 same-length c = search needs
 
 returns : tie.Need-returns
-returns c = let m = c .before .before .before .before .before in
+returns c =
+    let m = c .before .before .before .before .before in
     let a = m .before .before .before .before .args in
-    joined (now (a .packets)) (now (a .buf)) (m .join .ensures) (c .before .length .given .1)
+    callee-told
+    (joined (now (a .packets)) (now (a .buf)) (sym (m .join .ensures .0) ∙ c .before .length .given .1) (m .join .ensures .1))
     (omega (arith, within (now (a .packets)) (length (now (a .buf))) (sym (c .before .length .given .1) ∙ m .join .ensures .0)))
 
 same-length-2 : tie.Need-same-length-2
 same-length-2 c = search needs
 
 returns-2 : tie.Need-returns-2
-returns-2 c = let m = c .before .before .before .before .before .before in
+returns-2 c =
+    let m = c .before .before .before .before .before .before in
     let a = m .before .before .before .before .args in
-    not-joined (now (a .packets)) (now (a .buf)) (m .join .ensures) (c .before .before .number .given .1) (c .refused .ok) (c .refused .ensures)
+    let s = joined (now (a .packets)) (now (a .buf)) (sym (m .join .ensures .0) ∙ c .before .before .number .given .1) (m .join .ensures .1) in
+    callee-refused s (c .refused .ok) (c .refused .ensures)
 
 pub station-payload-spec : {M : Type 1} → statement M
 station-payload-spec =

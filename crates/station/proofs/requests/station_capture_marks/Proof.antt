@@ -2,7 +2,8 @@
 use mathlib.Core.Path.{sym, _∙_}
 use native.Mathlib.Omega.{arith}
 use denote.Ref.{now}
-use Rattle.station.proofs.Captures.{count-in, marks-told, marks-denied}
+use Rattle.station.proofs.Captures.{marked}
+use Rattle.station.proofs.Ends.{callee-told, callee-refused}
 use borrow.Author.Needs.{needs}
 use Rattle.station.proofs.requests.station_capture_marks.Statement.{statement}
 use Rattle.station.proofs.requests.station_capture_marks.Tie as tie
@@ -17,7 +18,7 @@ cast-result : tie.Need-cast-result
 cast-result c =
     let m = c .before .before .before .before .before in
     let a = m .before .before .before .before .args in
-    omega (arith, count-in (now (a .capture)) (now (a .out)) (sym (m .marks .ensures .0) ∙ c .before .count .given .1))
+    omega (arith, marked (now (a .capture)) (now (a .out)) (sym (m .marks .ensures .0) ∙ c .before .count .given .1) (m .marks .ensures .1) .0)
 
 enum-known-number : tie.Need-enum-known-number
 enum-known-number c = search needs
@@ -32,7 +33,8 @@ returns : tie.Need-returns
 returns c =
     let m = c .before .before .before .before .before in
     let a = m .before .before .before .before .args in
-    marks-told (now (a .capture)) (now (a .out)) (m .marks .ensures .1) (sym (m .marks .ensures .0) ∙ c .before .count .given .1) (omega arith)
+    let s = marked (now (a .capture)) (now (a .out)) (sym (m .marks .ensures .0) ∙ c .before .count .given .1) (m .marks .ensures .1) in
+    callee-told (s .1) (omega (arith, s .0))
 
 same-length-2 : tie.Need-same-length-2
 same-length-2 c = search needs
@@ -41,7 +43,8 @@ returns-2 : tie.Need-returns-2
 returns-2 c =
     let m = c .before .before .before .before .before .before in
     let a = m .before .before .before .before .args in
-    marks-denied (now (a .capture)) (now (a .out)) (m .marks .ensures .1) (sym (m .marks .ensures .0) ∙ c .before .before .number .given .1) (c .refused .ok) (c .refused .ensures)
+    let s = marked (now (a .capture)) (now (a .out)) (sym (m .marks .ensures .0) ∙ c .before .before .number .given .1) (m .marks .ensures .1) in
+    callee-refused s (c .refused .ok) (c .refused .ensures)
 
 pub station-capture-marks-spec : {M : Type 1} → statement M
 station-capture-marks-spec =

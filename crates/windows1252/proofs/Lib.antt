@@ -1,0 +1,9 @@
+pub mod Places
+pub mod Table
+pub mod Texts
+pub mod Owing
+pub mod CodeReads
+pub mod CodeWrites
+pub mod AsCell
+pub mod Kept
+pub mod Worked
