@@ -92,7 +92,7 @@ resultTooLong = 17
 
 -- ---- Caller
 
--- the input of a program is over 65,536 bytes, or packets to read over 131,072
+-- the input of a program is over 65,536 bytes, or packets to read or a label over 131,072
 abbrev pub inputTooLong : ℕ
 inputTooLong = 18
 

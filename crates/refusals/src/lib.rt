@@ -73,7 +73,7 @@ pub const RESULT_TOO_LONG: u8 = 17;
 
 // ---- Caller
 
-// The input of a program is over 65,536 bytes, or packets to read over 131,072.
+// The input of a program is over 65,536 bytes, or packets to read or a label over 131,072.
 pub const INPUT_TOO_LONG: u8 = 18;
 
 // A lent buffer is too short.

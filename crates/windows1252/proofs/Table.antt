@@ -4,7 +4,7 @@ use mathlib.Core.Bool.{Bool, true, false, not, _&&_, _||_}
 use mathlib.Core.List.{List, [], _∷_}
 use Prim.Native.Nat.{ℕ, _+_, _<_, _≤_}
 use native.Mathlib.Omega.{arith}
-use borrow.Author.Tests.{ne-eqb, eqb-true, ltb-true, lt-ltb, le-ltb, le-leb, lt-leb}
+use borrow.Author.Tests.{eq-eqb, ne-eqb, eqb-true, ltb-true, lt-ltb, le-ltb, le-leb, lt-leb}
 use lib.Dec.{eqb, ltb, leb}
 use lib.ListN.{length, getD}
 use Rattle.wire.proofs.Cases.{split, by-test, clash}
@@ -65,9 +65,15 @@ unit-of-byte u e =
     (h, found u table (omega (arith, all-entries)))
 
 -- a unit whose byte is not 256 has one
-pub has-byte : (u : ℕ) → (byteOf u ≡ 256 → ⊥) → hasByte u ≡ true
+pub has-by : (u : ℕ) → not (eqb (byteOf u) 256) ≡ hasByte u
 unfolding hasByte byteOf
-has-byte u e = lt-ltb (placeOf u table) 256 (omega (arith, place-most u table, all-entries, e))
+has-by u =
+    by-test (eqb (placeOf u table) 256)
+    (λ t. rw (eqb-true (placeOf u table) 256 t))
+    (λ t. let e = lt-ltb (placeOf u table) 256 (omega (arith, place-most u table, all-entries, not-equal t)) in rw (t, e))
+  where
+    not-equal : eqb (placeOf u table) 256 ≡ false → placeOf u table ≡ 256 → ⊥
+    not-equal t q = clash (let z : eqb (placeOf u table) 256 ≡ true = eq-eqb (placeOf u table) 256 q in cc)
 
 -- a unit that stands for no byte
 pub no-byte : (u : ℕ) → ((b : ℕ) → b < 256 → eqb (unitOf b) u ≡ false) → byteOf u ≡ 256
@@ -89,6 +95,10 @@ module _ (u : ℕ) where
 
   pub own-byte : isItself u ≡ true → byteOf u ≡ u
   own-byte e = ap byteOf (sym (itself u (own-small e) e)) ∙ byte-of-unit u (own-small e)
+
+  pub own-has : isItself u ≡ true → hasByte u ≡ true
+  unfolding hasByte
+  own-has e = rw (own-byte e) (lt-ltb u 256 (own-small e))
 
 -- of the bytes only 80 to 9F are not their own units
 between : (u : ℕ) → u < 256 → isItself u ≡ false → (0x80 ≤ u) × (u < 0xA0)

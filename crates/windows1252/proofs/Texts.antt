@@ -11,14 +11,13 @@ use lib.Seq.{drop-cons}
 use Rattle.wire.specs.Le.{leAt, le}
 use Rattle.wire.specs.Even.{even}
 use Rattle.wire.specs.Octets.{Bytes}
-use Rattle.wire.proofs.Le.{length-le, le-exact, le-bytes}
+use Rattle.wire.proofs.Le.{length-le, le-exact}
 use Rattle.text.specs.Units.{unitsOf}
-use Rattle.text.proofs.Scan.{unit-at}
 use Rattle.cells.specs.Values.{joinedFrom}
 use Rattle.cells.proofs.Joined.{joined-turn, joined-end}
 use Rattle.payload.proofs.CodeReads.{and-true}
 use Rattle.windows1252.specs.Table.{unitOf, byteOf, hasByte, haveBytes, bytesOf, textOf}
-use Rattle.windows1252.proofs.Table.{unit-small, byte-of-unit, unit-of-byte, has-byte}
+use Rattle.windows1252.proofs.Table.{unit-small, byte-of-unit, unit-of-byte}
 
 -- ---- text
 
@@ -61,19 +60,15 @@ pub bytes-over : {us : List ℕ} → us ≡ [] → bytesOf us ≡ []
 unfolding bytesOf
 bytes-over e = ap bytesOf e
 
--- ---- units of a text, from a place on
+-- ---- whether units have bytes
 
--- the two bytes at a place are a unit before those from the second next place on
-pub unit-turn : (t : List ℕ) (at : ℕ) {u : ℕ} → at + 1 < length t → u ≡ leAt 2 (drop at t) → unitsOf (drop at t) ≡ u ∷ unitsOf (drop (at + 2) t)
-unit-turn t at h e = unit-at t at h (e ∙ le-bytes 1 at t (omega arith))
-
-pub have-not : (u : ℕ) (us : List ℕ) → byteOf u ≡ 256 → haveBytes (u ∷ us) ≡ false
-unfolding haveBytes hasByte
+pub have-not : (u : ℕ) (us : List ℕ) → hasByte u ≡ false → haveBytes (u ∷ us) ≡ false
+unfolding haveBytes
 have-not u us e = rw e
 
-pub have-one : (u : ℕ) (us : List ℕ) → (byteOf u ≡ 256 → ⊥) → haveBytes (u ∷ us) ≡ haveBytes us
+pub have-one : (u : ℕ) (us : List ℕ) → hasByte u ≡ true → haveBytes (u ∷ us) ≡ haveBytes us
 unfolding haveBytes
-have-one u us e = rw (has-byte u e)
+have-one u us e = rw e
 
 pub have-both : (u : ℕ) (us : List ℕ) → haveBytes (u ∷ us) ≡ true → (byteOf u < 256) × (haveBytes us ≡ true)
 unfolding haveBytes

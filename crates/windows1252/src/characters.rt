@@ -1,11 +1,11 @@
 // The characters of Windows-1252, as UTF-16 units, and the bytes that stand for them.
 ghost use mathlib.Core.Path.{_≡_};
 ghost use mathlib.Core.Bool.{false};
-ghost use Rattle.windows1252.specs.Table.{table, unitOf, byteOf};
+ghost use Rattle.windows1252.specs.Table.{table, unitOf, byteOf, hasByte};
 ghost use Rattle.windows1252.specs.Code.{isItself};
 
 // The place of a unit that does not stand in the table.
-pub(crate) const NO_ENTRY: u16 = 256;
+const NO_ENTRY: u16 = 256;
 
 // The character of each byte, as a UTF-16 unit: the WHATWG Encoding Standard's index windows-1252 from 80 on, ASCII below.
 pub(crate) const TABLE: [u16; 256] = [
@@ -286,6 +286,17 @@ pub(crate) fn byte_of(units: &[u16], u: u16) -> u16
         return u;
     }
     find(units, u)
+}
+
+// Whether a byte stands for a unit.
+pub(crate) fn has_byte(units: &[u16], u: u16) -> bool
+    requires { ⌜ now units ≡ table ⌝ }
+    ensures { λ r. ⌜ r ≡ hasByte u ⌝ }
+{
+    if is_itself(u) {
+        return true;
+    }
+    find(units, u) != NO_ENTRY
 }
 
 // Whether a unit is its own byte: below 80, and from A0 to FF.

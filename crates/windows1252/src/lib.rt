@@ -6,9 +6,9 @@ use cells::ChunksRead;
 use cells::NULL_TOTAL;
 use cells::UNKNOWN_TOTAL;
 use cells::chunks_at;
-use characters::NO_ENTRY;
 use characters::TABLE;
 use characters::byte_of;
+use characters::has_byte;
 use characters::unit_of;
 use payload::NumberRead;
 use payload::frames::body;
@@ -194,7 +194,8 @@ fn have_bytes(text: &[u8]) -> bool
     let mut at: usize = 0;
     while at + 1 < text.len() {
         let next = at + 2;
-        if byte_of(&units, wire::get_u16_le(text, at)) == NO_ENTRY {
+        let unit = wire::u16_from_le_bytes(text[at], text[at + 1]);
+        if !has_byte(&units, unit) {
             return false;
         }
         at = next;
@@ -247,7 +248,8 @@ fn put_bytes(text: &[u8], buf: &mut [u8], at: usize) -> usize
     let mut from: usize = 0;
     let mut to = at;
     while from + 1 < text.len() {
-        buf[to] = byte_of(&units, wire::get_u16_le(text, from)) as u8;
+        let unit = wire::u16_from_le_bytes(text[from], text[from + 1]);
+        buf[to] = byte_of(&units, unit) as u8;
         to += 1;
         from += 2;
     }

@@ -4,11 +4,12 @@ use mathlib.Core.Path.{_≡_, refl, sym, ap, _∙_}
 use lib.ListN.{length, drop}
 use native.Mathlib.Omega.{arith}
 use borrow.Author.Needs.{needs}
+use borrow.Author.Tests.{not-true, not-false}
 use denote.Ref.{now}
 use Rattle.text.specs.Units.{unitsOf}
-use Rattle.text.proofs.Scan.{no-unit}
+use Rattle.text.proofs.Scan.{unit-at, no-unit}
 use Rattle.windows1252.specs.Table.{table, haveBytes}
-use Rattle.windows1252.proofs.Texts.{unit-turn, have-not, have-one}
+use Rattle.windows1252.proofs.Texts.{have-not, have-one}
 use Rattle.windows1252.proofs.have_bytes.Statement.{statement}
 use Rattle.windows1252.proofs.have_bytes.Tie as tie
 
@@ -28,32 +29,43 @@ add-loop c = search needs
 add-next : tie.Need-add-next Inv-loop μ-loop
 add-next c = search needs
 
-slice-aggregate-byte-of : tie.Need-slice-aggregate-byte-of Inv-loop μ-loop
-slice-aggregate-byte-of c = search needs
+shared-slice-read-u16-from-le-bytes : tie.Need-shared-slice-read-u16-from-le-bytes Inv-loop μ-loop
+shared-slice-read-u16-from-le-bytes c = search needs
 
-get-u16-le-requires : tie.Need-get-u16-le-requires Inv-loop μ-loop
-get-u16-le-requires c κs = search needs
+add-u16-from-le-bytes : tie.Need-add-u16-from-le-bytes Inv-loop μ-loop
+add-u16-from-le-bytes c = search needs
 
-byte-of-requires : tie.Need-byte-of-requires Inv-loop μ-loop
-byte-of-requires c κs = c .before .before .before .loop .inv .0
+shared-slice-read-u16-from-le-bytes-2 :
+    tie.Need-shared-slice-read-u16-from-le-bytes-2 Inv-loop μ-loop
+shared-slice-read-u16-from-le-bytes-2 c = search needs
+
+u16-from-le-bytes-requires : tie.Need-u16-from-le-bytes-requires Inv-loop μ-loop
+u16-from-le-bytes-requires c κs = search needs
+
+slice-aggregate-has-byte : tie.Need-slice-aggregate-has-byte Inv-loop μ-loop
+slice-aggregate-has-byte c = search needs
+
+has-byte-requires : tie.Need-has-byte-requires Inv-loop μ-loop
+has-byte-requires c κs = c .before .before .before .before .before .loop .inv .0
 
 returns : tie.Need-returns Inv-loop μ-loop
 returns c =
-    let l = c .before .before .before .before .before in
+    let l = c .before .before .before .before .before .before .before in
     let t = now (l .before .before .args .text) in
-    let turned = unit-turn t (l .loop .at) (c .before .before .before .before .loop-test .taken) (c .before .before .get-u16-le .ensures) in
-    sym (l .loop .inv .2 ∙ ap haveBytes turned ∙ have-not _ _ (sym (c .before .byte-of .ensures) ∙ c .if1 .taken))
+    let more = c .before .before .before .before .before .before .loop-test .taken in
+    let turned = unit-at t (l .loop .at) more (c .before .before .before .u16-from-le-bytes .ensures) in
+    sym (l .loop .inv .2 ∙ ap haveBytes turned ∙ have-not _ _ (sym (c .before .has-byte .ensures) ∙ not-true _ (c .if1 .taken)))
 
 loop-less : tie.Need-loop-less Inv-loop μ-loop
 loop-less c = search needs
 
 loop-again : tie.Need-loop-again Inv-loop μ-loop
 loop-again c =
-    let l = c .before .before .before .before .before in
+    let l = c .before .before .before .before .before .before .before in
     let t = now (l .before .before .args .text) in
-    let more = c .before .before .before .before .loop-test .taken in
-    let turned = unit-turn t (l .loop .at) more (c .before .before .get-u16-le .ensures) in
-    (l .loop .inv .0, omega (arith, more), l .loop .inv .2 ∙ ap haveBytes turned ∙ have-one _ _ (λ e. c .if1 .left (c .before .byte-of .ensures ∙ e)))
+    let more = c .before .before .before .before .before .before .loop-test .taken in
+    let turned = unit-at t (l .loop .at) more (c .before .before .before .u16-from-le-bytes .ensures) in
+    (l .loop .inv .0, omega (arith, more), l .loop .inv .2 ∙ ap haveBytes turned ∙ have-one _ _ (sym (c .before .has-byte .ensures) ∙ not-false _ (c .if1 .left)))
 
 returns-2 : tie.Need-returns-2 Inv-loop μ-loop
 unfolding haveBytes
@@ -71,9 +83,12 @@ have-bytes-spec =
     loop-holds
     add-loop
     add-next
-    slice-aggregate-byte-of
-    get-u16-le-requires
-    byte-of-requires
+    shared-slice-read-u16-from-le-bytes
+    add-u16-from-le-bytes
+    shared-slice-read-u16-from-le-bytes-2
+    u16-from-le-bytes-requires
+    slice-aggregate-has-byte
+    has-byte-requires
     returns
     loop-less
     loop-again

@@ -10,9 +10,9 @@ use borrow.Author.Needs.{needs}
 use denote.Ref.{now}
 use Rattle.wire.proofs.Over.{stored}
 use Rattle.text.specs.Units.{unitsOf}
-use Rattle.text.proofs.Scan.{no-unit}
+use Rattle.text.proofs.Scan.{unit-at, no-unit}
 use Rattle.windows1252.specs.Table.{table, haveBytes, bytesOf, byteOf}
-use Rattle.windows1252.proofs.Texts.{length-bytes, bytes-turn, bytes-over, unit-turn, have-both}
+use Rattle.windows1252.proofs.Texts.{length-bytes, bytes-turn, bytes-over, have-both}
 use Rattle.windows1252.proofs.Owing.{Owing, owing-all, owing-less, owing-none}
 use Rattle.windows1252.proofs.put_bytes.Statement.{statement}
 use Rattle.windows1252.proofs.put_bytes.Tie as tie
@@ -27,19 +27,19 @@ abbrev μ-loop : tie.MeasureT-loop
 -- the unit at the place, and the byte that stands for it
 module _ (c : tie.After-byte-of Inv-loop μ-loop) where
   abbrev turn : tie.At-loop Inv-loop μ-loop
-  turn = c .before .before .before .before
+  turn = c .before .before .before .before .before .before
 
   abbrev text : List ℕ
   text = now (turn .before .before .before .args .text)
 
   abbrev unit : ℕ
-  unit = c .before .get-u16-le .result
+  unit = c .before .before .u16-from-le-bytes .result
 
   abbrev rest : List ℕ
   rest = unitsOf (drop (turn .loop .from + 2) text)
 
   turned : unitsOf (drop (turn .loop .from) text) ≡ unit ∷ rest
-  turned = unit-turn text (turn .loop .from) (c .before .before .before .loop-test .taken) (c .before .get-u16-le .ensures)
+  turned = unit-at text (turn .loop .from) (c .before .before .before .before .before .loop-test .taken) (c .before .before .u16-from-le-bytes .ensures)
 
   has : (byteOf unit < 256) × (haveBytes rest ≡ true)
   has = have-both unit rest (sym (ap haveBytes turned) ∙ turn .loop .inv .2)
@@ -59,14 +59,23 @@ loop-holds c = (refl, omega arith, c .before .before .pre .0, owing-all _ _ _)
 add-loop : tie.Need-add-loop Inv-loop μ-loop
 add-loop c = search needs
 
+shared-slice-read-u16-from-le-bytes : tie.Need-shared-slice-read-u16-from-le-bytes Inv-loop μ-loop
+shared-slice-read-u16-from-le-bytes c = search needs
+
+add-u16-from-le-bytes : tie.Need-add-u16-from-le-bytes Inv-loop μ-loop
+add-u16-from-le-bytes c = search needs
+
+shared-slice-read-u16-from-le-bytes-2 : tie.Need-shared-slice-read-u16-from-le-bytes-2 Inv-loop μ-loop
+shared-slice-read-u16-from-le-bytes-2 c = search needs
+
+u16-from-le-bytes-requires : tie.Need-u16-from-le-bytes-requires Inv-loop μ-loop
+u16-from-le-bytes-requires c κs = search needs
+
 slice-aggregate-byte-of : tie.Need-slice-aggregate-byte-of Inv-loop μ-loop
 slice-aggregate-byte-of c = search needs
 
-get-u16-le-requires : tie.Need-get-u16-le-requires Inv-loop μ-loop
-get-u16-le-requires c κs = search needs
-
 byte-of-requires : tie.Need-byte-of-requires Inv-loop μ-loop
-byte-of-requires c κs = c .before .before .before .loop .inv .0
+byte-of-requires c κs = c .before .before .before .before .before .loop .inv .0
 
 cast-buf : tie.Need-cast-buf Inv-loop μ-loop
 cast-buf c = omega (arith, c .byte-of .ensures, has c .0)
@@ -88,7 +97,7 @@ loop-again c =
     let l = turn c .loop in
     let b = c .byte-of .result in
     let written = stored (l .buf) (l .to) b (room c) refl .0 in
-    (turn c .loop .inv .0, omega (arith, c .before .before .before .loop-test .taken), has c .1, owing-less (l .inv .3) (b ∷ []) _ (rw (← c .byte-of .ensures) at (next c)) written refl)
+    (turn c .loop .inv .0, omega (arith, c .before .before .before .before .before .loop-test .taken), has c .1, owing-less (l .inv .3) (b ∷ []) _ (rw (← c .byte-of .ensures) at (next c)) written refl)
 
 same-length : tie.Need-same-length Inv-loop μ-loop
 same-length c = search needs
@@ -108,8 +117,11 @@ put-bytes-spec =
     μ-loop
     loop-holds
     add-loop
+    shared-slice-read-u16-from-le-bytes
+    add-u16-from-le-bytes
+    shared-slice-read-u16-from-le-bytes-2
+    u16-from-le-bytes-requires
     slice-aggregate-byte-of
-    get-u16-le-requires
     byte-of-requires
     cast-buf
     slice-write-buf
