@@ -1,4 +1,5 @@
--- That a label is the cell that it is read as, that no two bytes share a character, and that a label is kept when it is written and read, and when it is read and written (document 02, 2026-07). Rests on Labels and Answers.
+-- That a label is the cell that it is read as, that no two bytes share a character, and that a label is kept when it is written and
+-- read, and when it is read and written (document 02, 2026-07). Rests on Labels and Answers.
 use Prim.Native.Nat.{ℕ, _<_, _≤_}
 use mathlib.Core.Path.{_≡_}
 use mathlib.Core.List.{List}
