@@ -3,7 +3,7 @@
 use mathlib.Core.Path.{_≡_, refl, ap, _∙_}
 use mathlib.Core.Bool.{Bool, true, false, _&&_}
 use mathlib.Core.List.{List, _++_, append-nil}
-use Prim.Native.Nat.{ℕ, zero, suc, _+_, _-_, _*_, _≤_, _<_, min}
+use Prim.Native.Nat.{ℕ, zero, suc, _+_, _-_, _*_, _/_, _≤_, _<_, min}
 use native.Mathlib.Nat.{div-eq-of-lt, div-eq-of-lt-le, add-div-right, div-le-self}
 use native.Mathlib.Omega.{arith}
 use lib.Dec.{leb}
@@ -29,25 +29,29 @@ unfolding partBytes
 length-part number last p =
     length-append (headerBytes (partHeader number last (length p))) p ∙ ap (λ (n : ℕ). n + length p) (length-header (partHeader number last (length p)))
 
+-- rounded up, by the room
+pub rounded-up : (room n : ℕ) → 1 ≤ room → partCount room n ≡ (n + (room - 1)) / room
+unfolding partCount
+rounded-up zero n h = absurd (omega arith)
+rounded-up (suc less) n h = let e : suc less - 1 ≡ less = omega arith in rw e
+
 -- no more parts than bytes and rooms
 pub count-bound : (room n : ℕ) → partCount room n ≤ n + (room - 1)
 unfolding partCount
-count-bound room n = div-le-self (n + (room - 1)) room
+count-bound zero n = omega arith
+count-bound (suc less) n = omega (arith, div-le-self (n + less) (suc less))
 
 module _ (room : ℕ) (some : 1 ≤ room) where
   pub count-none : partCount room 0 ≡ 0
-  unfolding partCount
-  count-none = div-eq-of-lt {n = 0 + (room - 1)} {m = room} (omega arith)
+  count-none = rounded-up room 0 some ∙ div-eq-of-lt {n = 0 + (room - 1)} {m = room} (omega arith)
 
   pub count-one : (n : ℕ) → 1 ≤ n → n ≤ room → partCount room n ≡ 1
-  unfolding partCount
-  count-one n h f = div-eq-of-lt-le {k = 1} room {m = n + (room - 1)} (omega arith) (omega arith)
+  count-one n h f = rounded-up room n some ∙ div-eq-of-lt-le {k = 1} room {m = n + (room - 1)} (omega arith) (omega arith)
 
   pub count-more : (n : ℕ) → room ≤ n → partCount room n ≡ partCount room (n - room) + 1
-  unfolding partCount
   count-more n h =
       let e : n + (room - 1) ≡ n - room + (room - 1) + room = omega arith in
-      rw e (add-div-right (n - room + (room - 1)) {k = room} (omega arith))
+      rw (rounded-up room n some, rounded-up room (n - room) some, e) (add-div-right (n - room + (room - 1)) {k = room} (omega arith))
 
   -- as many turns as bytes are enough
   enough : (turns more number : ℕ) (p : List ℕ) → 1 ≤ length p → length p ≤ turns → length p ≤ more

@@ -14,7 +14,8 @@ use Rattle.wire.proofs.Cases.{split}
 use Rattle.wire.proofs.Over.{then, wrote-as, drop-over, length-over, over-eq, wrote-nothing}
 use Rattle.packet.specs.Header.{headerBytes}
 use Rattle.packet.specs.Cut.{partHeader, partBytes, cutFrom, packetsOf}
-use Rattle.packet.specs.Agreed.{packetCount, packetsLength, wholePackets, heldPayload, cutLength, cutBuffer}
+use Rattle.packet.specs.Agreed.{packetCount, packetsLength, wholePackets, heldPayload, cutAnswer, cutBuffer}
+use Rattle.packet.specs.declared.InPlace.the-variants.{Cut, NoRoom}
 use Rattle.packet.specs.Inner.{Stands}
 use Rattle.packet.proofs.Sizes.{length-header}
 use Rattle.packet.proofs.Counts.{length-part, count-none, count-one, count-more, cut-turn, length-packets}
@@ -131,12 +132,12 @@ held-none room total buf place number h = let z : total - place ≡ 0 = omega ar
 
 module _ (size n : ℕ) (buf : List ℕ) where
   -- no room for payload, or not for all packets
-  pub no-room : size ≤ 8 → (0 ≡ cutLength size n (length buf)) × (buf ≡ cutBuffer size n buf)
-  unfolding cutLength cutBuffer
+  pub no-room : size ≤ 8 → (NoRoom ≡ cutAnswer size n (length buf)) × (buf ≡ cutBuffer size n buf)
+  unfolding cutAnswer cutBuffer
   no-room h = let f : leb 9 size ≡ false = lt-leb 9 size (omega arith) in (rw f, rw f)
 
-  pub too-short : 9 ≤ size → length buf < packetsLength size n → (0 ≡ cutLength size n (length buf)) × (buf ≡ cutBuffer size n buf)
-  unfolding cutLength cutBuffer
+  pub too-short : 9 ≤ size → length buf < packetsLength size n → (NoRoom ≡ cutAnswer size n (length buf)) × (buf ≡ cutBuffer size n buf)
+  unfolding cutAnswer cutBuffer
   too-short some h =
       let t : leb 9 size ≡ true = le-leb 9 size some in
       let f : leb (packetsLength size n) (length buf) ≡ false = lt-leb (packetsLength size n) (length buf) h in
@@ -175,13 +176,14 @@ module _ (size n : ℕ) (buf : List ℕ) where
     cut-long = length-packets size (heldPayload size n buf) some ∙ ap (packetsLength size) held-size
 
     pub cut-done : {k : List ℕ} {to : ℕ} → Wrote buf 0 (heldLeft (size - 8) total buf (total - n) 1) k to
-        → (to ≡ cutLength size n (length buf)) × (k ≡ cutBuffer size n buf)
-    unfolding cutLength cutBuffer
-    cut-done w =
+        → (Cut to ≡ cutAnswer size n (length buf)) × (k ≡ cutBuffer size n buf)
+    unfolding cutAnswer cutBuffer
+    cut-done {to = to} w =
         let v = wrote-as w held-all in
         let t : leb 9 size ≡ true = le-leb 9 size some in
         let f : leb (packetsLength size n) (length buf) ≡ true = le-leb (packetsLength size n) (length buf) (omega arith) in
-        (rw (t, f) (omega (arith, v .1 .place, cut-long)), rw (t, f) (v .0))
+        let long : to ≡ packetsLength size n = omega (arith, v .1 .place, cut-long) in
+        (rw (t, f) (ap Cut long), rw (t, f) (v .0))
 
 -- a payload that was written where it is to stand, and cut: its packets are written
 module _ (size : ℕ) (payload buf : List ℕ) (some : 9 ≤ size) (fits : packetsLength size (length payload) ≤ length buf) where
@@ -210,10 +212,9 @@ module _ (size : ℕ) (payload buf : List ℕ) (some : 9 ≤ size) (fits : packe
       over-eq xs placed 0 (omega (arith, placed-long)) ∙ ap (λ (q : List ℕ). xs ++ q) (drop-over payload buf (packetCount size (length payload) * 8) (0 + length xs) (omega arith))
       ∙ sym (over-eq xs buf 0 (omega arith))
 
-  pub cut-written : (packetsLength size (length payload) ≡ cutLength size (length payload) (length placed))
-      × (cutBuffer size (length payload) placed ≡ overwrite buf 0 (packetsOf size payload))
-  unfolding cutLength cutBuffer
+  pub cut-written : cutBuffer size (length payload) placed ≡ overwrite buf 0 (packetsOf size payload)
+  unfolding cutBuffer
   cut-written =
       let t : leb 9 size ≡ true = le-leb 9 size some in
       let f : leb (packetsLength size (length payload)) (length buf) ≡ true = le-leb (packetsLength size (length payload)) (length buf) fits in
-      (rw (t, placed-long, f), rw (t, placed-long, f, held-is) covered)
+      rw (t, placed-long, f, held-is) covered

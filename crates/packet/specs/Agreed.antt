@@ -1,21 +1,24 @@
 -- The packet sizes that can be agreed at login, how many packets of a size a payload becomes, and what is left of a buffer in
 -- which a payload was cut (document 02, 2026-02, 'Packets of the agreed size'). Rests on Cut.
-use Prim.Native.Nat.{ℕ, _+_, _-_, _*_, _/_, _≤_}
+use Prim.Native.Nat.{ℕ, zero, suc, _+_, _-_, _*_, _/_, _≤_}
 use mathlib.Core.Path.{_≡_}
 use mathlib.Core.Bool.{Bool, cond, _&&_}
 use mathlib.Core.List.{List, []}
 use lib.Dec.{leb}
 use lib.ListN.{length, take, drop}
 use Rattle.wire.specs.Over.{overwrite}
+use Rattle.packet.specs.declared.InPlace.{InPlace}
+use Rattle.packet.specs.declared.InPlace.the-variants as inPlace
 use Rattle.packet.specs.Cut.{packetsOf}
 
 -- a size that can be agreed: 512 to 32,767 bytes, header included
 abbrev pub isPacketSize : ℕ → Bool
 isPacketSize size = leb 512 size && leb size 32767
 
--- how many parts of at most room bytes n bytes make: n / room, rounded up
-unfoldable pub partCount : ℕ → ℕ → ℕ
-partCount room n = (n + (room - 1)) / room
+-- how many parts of at most room bytes n bytes make: n / room, rounded up; without room, none
+unfoldable pub partCount : (room n : ℕ) → ℕ
+partCount zero n = 0
+partCount (suc less) n = (n + less) / suc less
 
 -- how many packets of a size a payload of n bytes becomes
 unfoldable pub packetCount : ℕ → ℕ → ℕ
@@ -41,9 +44,9 @@ heldPayload size n buf = take n (drop (packetCount size n * 8) buf)
 abbrev pub canCut : ℕ → ℕ → ℕ → Bool
 canCut size n lent = leb 9 size && leb (packetsLength size n) lent
 
--- the length of the packets cut in lent bytes, or 0
-unfoldable pub cutLength : ℕ → ℕ → ℕ → ℕ
-cutLength size n lent = cond (canCut size n lent) (packetsLength size n) 0
+-- what cutting it there comes to: the length of the packets, or no room
+unfoldable pub cutAnswer : ℕ → ℕ → ℕ → InPlace
+cutAnswer size n lent = cond (canCut size n lent) (inPlace.Cut (packetsLength size n)) inPlace.NoRoom
 
 -- a buffer in which a payload was cut: the packets at its front; without room for them, the buffer as it was
 unfoldable pub cutBuffer : ℕ → ℕ → List ℕ → List ℕ

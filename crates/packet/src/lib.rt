@@ -13,7 +13,7 @@ ghost use Rattle.packet.specs.Status.{hasBit};
 ghost use Rattle.packet.specs.Header.{newHeader, parsedOf, headerBytes};
 ghost use Rattle.packet.specs.Reply.{replyHeader};
 ghost use Rattle.packet.specs.Cut.{partHeader, partBytes, cutFrom};
-ghost use Rattle.packet.specs.Agreed.{isPacketSize, packetCount, packetsLength, wholePackets, cutLength, cutBuffer};
+ghost use Rattle.packet.specs.Agreed.{isPacketSize, packetCount, packetsLength, wholePackets, cutAnswer, cutBuffer};
 ghost use Rattle.packet.specs.Inner.{Stands};
 
 pub const PACKET_HEADER_SIZE: usize = 8;
@@ -318,22 +318,28 @@ fn move_parts(buf: &mut [u8], room: usize, from: usize, total: usize) -> usize
     at
 }
 
+// What cutting a payload where it stands comes to: the length of its packets, or no room for them.
+pub enum InPlace {
+    Cut(usize),
+    NoRoom,
+}
+
 // A payload of n bytes cut where it stands, into packets at the buffer's front: it begins after eight bytes for each of them, so
-// that it ends where they do. The answer is their length; where they have no room, nothing is cut, and the answer is 0.
-pub fn cut_in_place(buf: &mut [u8], size: u16, n: u16) -> usize
-    ensures { λ r. ⌜ r ≡ cutLength size n (length (now (buf .entry))) ⌝ }
+// that it ends where they do. Where they have no room, nothing is cut.
+pub fn cut_in_place(buf: &mut [u8], size: u16, n: u16) -> InPlace
+    ensures { λ r. ⌜ r ≡ cutAnswer size n (length (now (buf .entry))) ⌝ }
     ensures { λ _. ⌜ now (buf .exit) ≡ cutBuffer size n (now (buf .entry)) ⌝ }
 {
     if size <= 8 {
-        return 0;
+        return InPlace::NoRoom;
     }
     let total = packets_length(size, n);
     if buf.len() < total {
-        return 0;
+        return InPlace::NoRoom;
     }
     let room = size as usize - 8;
     let from = total - n as usize;
-    move_parts(buf, room, from, total)
+    InPlace::Cut(move_parts(buf, room, from, total))
 }
 
 // A packet with its payload.

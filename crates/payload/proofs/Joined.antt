@@ -113,6 +113,3 @@ one-packet p h = go (length p) refl
     go (suc n) e =
         let a : 8 + length p - 8 ≡ length p = omega arith in
         rw (a, le-leb (length p) (length p) (omega arith)) (ap (λ (x : List ℕ). x ++ p) (sym (reply-header (8 + length p))))
-
-pub joined-one : (p : List ℕ) → 1 ≤ length p → 8 + length p < 65536 → Whole (packetsIn (packetOf p)) p
-joined-one p h short = rw (one-packet p h) (joined (8 + length p) p (omega arith) short h)

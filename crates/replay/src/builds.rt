@@ -49,7 +49,7 @@ fn build_lent(line: &[u8], name: &[u8], buf: &mut [u8], lent: usize) -> Told {
     build(line, name, buf)
 }
 
-// Replies to scripts, and whatever takes no text.
+// Builders by the beginning of their names.
 fn build(line: &[u8], name: &[u8], buf: &mut [u8]) -> Told {
     if check::same(words::piece(name, 6, b'_'), b"query") {
         return build_result(line, name, buf);
@@ -60,6 +60,11 @@ fn build(line: &[u8], name: &[u8], buf: &mut [u8]) -> Told {
     if check::same(words::piece(name, 6, b'_'), b"prelogin") {
         return build_prelogin(line, name, buf);
     }
+    build_fixed(line, name, buf)
+}
+
+// Builders that take numbers, or nothing.
+fn build_fixed(line: &[u8], name: &[u8], buf: &mut [u8]) -> Told {
     if check::same(name, b"build_login_ack") {
         return told_of(response::build_login_ack(buf));
     }
@@ -82,14 +87,18 @@ fn build(line: &[u8], name: &[u8], buf: &mut [u8]) -> Told {
     build_ack(line, name, buf)
 }
 
-// Replies to scripts, under the four names of the Rust.
+// Replies to scripts: in packets, and as one packet under the four names of the Rust.
 fn build_result(line: &[u8], name: &[u8], buf: &mut [u8]) -> Told {
     if check::same(name, b"build_query_results_in_packets") {
         return build_packets(line, buf);
     }
     let mut space = spaces::zeros();
     let n = words::bytes_at(line, 2, &mut space);
-    let script = wire::part_of(&space, calls::first(n));
+    build_packet(name, wire::part_of(&space, calls::first(n)), buf)
+}
+
+// Those of one packet.
+fn build_packet(name: &[u8], script: &[u8], buf: &mut [u8]) -> Told {
     if check::same(name, b"build_query_results") {
         return told_result(result::build_query_results(script, buf));
     }

@@ -75,6 +75,11 @@ fn tell(line: &[u8], name: &[u8], input: &[u8], out: &mut [u8]) -> usize {
     if check::same(name, b"fit") {
         return scripts::fits(input, out);
     }
+    tell_numbered(line, name, input, out)
+}
+
+// Of logins, procedure calls and captures.
+fn tell_numbered(line: &[u8], name: &[u8], input: &[u8], out: &mut [u8]) -> usize {
     if check::same(name, b"parse_login7") {
         return logins::parse(line, input, out);
     }
@@ -87,6 +92,7 @@ fn tell(line: &[u8], name: &[u8], input: &[u8], out: &mut [u8]) -> usize {
     tell_request(name, input, out)
 }
 
+// Of headers and texts.
 fn tell_request(name: &[u8], input: &[u8], out: &mut [u8]) -> usize {
     if check::same(name, b"parse_header") {
         return requests::header(input, out);
@@ -97,6 +103,11 @@ fn tell_request(name: &[u8], input: &[u8], out: &mut [u8]) -> usize {
     if check::same(name, b"text") {
         return requests::counts(input, out);
     }
+    tell_message(name, input, out)
+}
+
+// Of the messages of a client.
+fn tell_message(name: &[u8], input: &[u8], out: &mut [u8]) -> usize {
     if check::same(name, b"parse_sql_batch") {
         return requests::batch(input, out);
     }

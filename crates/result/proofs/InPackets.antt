@@ -11,7 +11,7 @@ use borrow.Author.Tests.{lt-ltb, le-ltb, ltb-false, eqb-true, eqb-false}
 use Rattle.wire.specs.Over.{Wrote, overwrite}
 use Rattle.wire.proofs.Cases.{by-test}
 use Rattle.packet.specs.Cut.{packetsOf}
-use Rattle.packet.specs.Agreed.{isPacketSize, packetCount, packetsLength, cutLength, cutBuffer}
+use Rattle.packet.specs.Agreed.{isPacketSize, packetCount, packetsLength, cutBuffer}
 use Rattle.packet.proofs.Sizes.{length-packet}
 use Rattle.packet.proofs.Counts.{size-bounds, length-packets}
 use Rattle.packet.proofs.Cutting.{cut-written}
@@ -43,16 +43,14 @@ module _ (size : ℕ) (p buf : List ℕ) (some : 9 ≤ size) (total n : ℕ) (t 
   unfolding packetsLength
   at-is = rw (← e) (omega arith)
 
-  pub cut : {k m : List ℕ} {to r : ℕ} → total ≤ length buf → Wrote buf (total - n) p k to → r ≡ cutLength size n (length k) → m ≡ cutBuffer size n k
-      → (Written r ≡ fitted (Written (length (packetsOf size p))) (length buf)) × (m ≡ leaves (fitted (Written (length (packetsOf size p))) (length buf)) (packetsOf size p) buf)
-  cut {k} {m} {r = r} h w a b =
+  pub cut : {k m : List ℕ} {to : ℕ} → total ≤ length buf → Wrote buf (total - n) p k to → m ≡ cutBuffer size n k
+      → (Written total ≡ fitted (Written (length (packetsOf size p))) (length buf)) × (m ≡ leaves (fitted (Written (length (packetsOf size p))) (length buf)) (packetsOf size p) buf)
+  cut {k} {m} h w b =
       let f = le-ltb (length buf) total h in
       let there : k ≡ overwrite buf (packetCount size (length p) * 8) p = w .0 ∙ ap (λ (i : ℕ). overwrite buf i p) at-is in
       let same : packetsLength size (length p) ≡ total = rw (← e) (sym t) in
-      let done = cut-written size p buf some (rw same h) in
-      let answer : r ≡ total = rw (e, there) at a ∙ sym (done .0) ∙ same in
-      let left : m ≡ overwrite buf 0 (packetsOf size p) = rw (e, there) at b ∙ done .1 in
-      (rw (long, f, answer), rw (long, f) left)
+      let left : m ≡ overwrite buf 0 (packetsOf size p) = rw (e, there) at b ∙ cut-written size p buf some (rw same h) in
+      (rw (long, f), rw (long, f) left)
 
 -- ---- scripts
 

@@ -425,7 +425,8 @@ fn put_in_packets(script: &[u8], size: u16, n: u16, buf: &mut [u8]) -> Built
         return Built::Refused(BUFFER_TOO_SHORT);
     }
     put_pieces(buf, total - n as usize, script);
-    Built::Written(packet::cut_in_place(buf, size, n))
+    packet::cut_in_place(buf, size, n);
+    Built::Written(total)
 }
 
 // The reply of a script, in packets of a size at the buffer's front.

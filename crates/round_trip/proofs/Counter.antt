@@ -1,6 +1,6 @@
 -- Wrong replies that the statements refuse, by the tokens that would be read of them: a set without its DONE, a DONE with an invented
 -- count, one whose count is not valid, a leading DONE whose count is, and all rows in the first set with later sets empty. Assumes nothing.
-use mathlib.Core.Path.{_≡_, refl, ap, _∙_}
+use mathlib.Core.Path.{_≡_, refl, sym, ap, _∙_}
 use mathlib.Core.Bool.{true, false}
 use mathlib.Core.List.{List, [], _∷_}
 use mathlib.Core.Option.{Option, none}
@@ -8,11 +8,13 @@ use Prim.Native.Nat.{ℕ}
 use native.Mathlib.Omega.{arith}
 use lib.IntN.{pos}
 use lib.ListN.{length}
+use Rattle.wire.proofs.Cases.{clash}
 use Rattle.packet.specs.Status.{hasBit}
 use Rattle.token.specs.Tokens.{Token, Value, metadata, column, row, cell, done, number, null}
 use Rattle.round_trip.specs.RoundTrip.{Packing, packetsLeft, Sent, Reads}
 use Rattle.round_trip.specs.Reading.{setsEnd, moreButLast}
 use Rattle.round_trip.specs.Data.{dataIn, dataOf, present}
+use Rattle.round_trip.proofs.Reading.{sets-read}
 use Rattle.round_trip.proofs.Data.{data-read}
 use Rattle.round_trip.proofs.Witness.{twoSets, two-sets-data}
 
@@ -80,3 +82,14 @@ not-the-data e = let two-is-one : _≡_ {A = ℕ} 2 1 = ap rowsOfFirst (e ∙ tw
 -- so no packets that the builder leaves for the script read as this reply
 pub never-gathered : (how : Packing) (b : List ℕ) (n : ℕ) → Sent how twoSets b n → Reads (packetsLeft how twoSets b n) gathered → ⊥
 never-gathered how b n h r = not-the-data (data-read how twoSets b n h gathered r)
+
+-- ---- what the builder leaves
+
+-- Of whatever script, no packets that it leaves read as tokens in which a set does not end in a DONE with its valid count: not as
+-- `lost`, not as `invented`, and not as `ended` with one of the statuses above.
+pub never-miscounted : (how : Packing) (s b : List ℕ) (n : ℕ) → Sent how s b n → (ts : List (Token Value)) → setsEnd none ts ≡ false
+    → Reads (packetsLeft how s b n) ts → ⊥
+never-miscounted how s b n h ts wrong r = let never : false ≡ true = sym wrong ∙ sets-read how s b n h ts r in clash (cc)
+
+pub never-invented : (how : Packing) (s b : List ℕ) (n : ℕ) → Sent how s b n → Reads (packetsLeft how s b n) invented → ⊥
+never-invented how s b n h = never-miscounted how s b n h invented not-counted

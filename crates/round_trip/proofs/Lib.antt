@@ -11,5 +11,6 @@ pub mod Counts
 pub mod Witness
 pub mod Counter
 pub mod Running
+pub mod Shaped
 pub mod AnySize
 pub mod Joined

@@ -6,15 +6,17 @@ use mathlib.Core.List.{List, [], _∷_, _++_}
 use mathlib.Core.Option.{some}
 use Prim.Native.Nat.{ℕ, _+_, _-_, _≤_, _<_}
 use native.Mathlib.Omega.{arith}
-use lib.Dec.{eqb, leb, ltb}
+use lib.Dec.{eqb, ltb}
 use lib.ListN.{length, take, drop}
 use lib.Seq.{take-at}
-use borrow.Author.Tests.{ltb-false, leb-true, eqb-true}
+use borrow.Author.Tests.{ltb-false, eqb-true}
 use Rattle.wire.proofs.Cases.{by-test, clash}
 use Rattle.wire.specs.Over.{overwrite}
 use Rattle.wire.proofs.Over.{over-eq}
 use Rattle.packet.specs.Agreed.{isPacketSize}
+use Rattle.packet.specs.Cut.{packetsOf}
 use Rattle.packet.proofs.Sizes.{length-packet}
+use Rattle.packet.proofs.Counts.{size-bounds}
 use Rattle.token.specs.Tokens.{metadata, joined}
 use Rattle.script.specs.declared.Stage.the-variants.{Start}
 use Rattle.script.specs.Records.{Item, item, cut, records}
@@ -30,8 +32,7 @@ use Rattle.emission.proofs.Replies.{size-error}
 use Rattle.script.specs.Runs.{ahead}
 use Rattle.result.specs.Built.{repliesOf, roomFor, roomOf, roomAt, fitted, builtOf, bufferOf, builtInPackets, bufferInPackets}
 use Rattle.payload.specs.Packets.{packetsIn}
-use Rattle.payload.proofs.CodeReads.{and-true}
-use Rattle.payload.proofs.Joined.{Whole, joined-one}
+use Rattle.payload.proofs.Joined.{Whole, one-packet}
 use Rattle.payload.proofs.Joined as cuts
 use Rattle.reader.proofs.ReadBack.{reads-back}
 use Rattle.round_trip.specs.RoundTrip.{Packing, single, sized, builtBy, packetsLeft, RoundTrip}
@@ -115,15 +116,27 @@ pub payload-short : (s : List ℕ) → refusalOf s ≡ 0 → 8 + length (bytesIn
 unfolding replyOf
 payload-short s e = let r = not-refused s e .2 in omega (arith, length-packet (bytesIn (pieces s)))
 
--- however it was sent, joined it is that payload
-pub replies-whole : (how : Packing) (s : List ℕ) → refusalOf s ≡ 0 → Agreed how → Whole (packetsIn (repliesBy how s)) (bytesIn (pieces s))
+-- however it was sent, it is that payload, cut at some size
+pub record CutAt (how : Packing) (s : List ℕ) : Type 0 where
+  pub size : ℕ
+  pub least : 9 ≤ size
+  pub most : size ≤ 65535
+  pub is : repliesBy how s ≡ packetsOf size (bytesIn (pieces s))
+
+pub cut-at : (how : Packing) (s : List ℕ) → refusalOf s ≡ 0 → Agreed how → CutAt how s
 unfolding replyOf repliesOf
-replies-whole single s e a = joined-one (bytesIn (pieces s)) (payload-some s e) (payload-short s e)
-replies-whole (sized size) s e a =
-    let w = and-true (leb 512 size) (leb size 32767) a in
-    let x = leb-true 512 size (w .0) in
-    let y = leb-true size 32767 (w .1) in
-    cuts.joined size (bytesIn (pieces s)) (omega arith) (omega arith) (payload-some s e)
+cut-at single s e a =
+    let p = bytesIn (pieces s) in
+    record { size = 8 + length p; least = omega (arith, payload-some s e); most = omega (arith, payload-short s e); is = one-packet p (payload-some s e) }
+cut-at (sized size) s e a =
+    let b = size-bounds size a in
+    record { size = size; least = omega (arith, b .0); most = omega (arith, b .1); is = refl }
+
+-- and joined again
+pub replies-whole : (how : Packing) (s : List ℕ) → refusalOf s ≡ 0 → Agreed how → Whole (packetsIn (repliesBy how s)) (bytesIn (pieces s))
+replies-whole how s e a =
+    let c = cut-at how s e a in
+    rw (c .is) (cuts.joined (c .size) (bytesIn (pieces s)) (c .least) (omega (arith, c .most)) (payload-some s e))
 
 -- ---- the round trip
 

@@ -1,4 +1,5 @@
 pub mod RoundTrip
+pub mod Shaped
 pub mod AnySize
 pub mod Joined
 pub mod Reading

@@ -34,7 +34,7 @@ returns-2 c = let d = c .before .before in
     let t = w .before .before .before in
     let p = t .before .before .before in
     cut (p .args .size) (bytesIn (walked (now (p .args .script)))) (now (p .args .buf)) (p .pre .0) _ (p .args .n) (t .packets-length .ensures) (p .pre .1)
-    (omega arith) (w .put-pieces .ensures) (d .cut-in-place .ensures .0) (d .cut-in-place .ensures .1)
+    (omega arith) (w .put-pieces .ensures) (d .cut-in-place .ensures .1)
 
 pub put-in-packets-spec : {M : Type 1} → statement M
 put-in-packets-spec =
