@@ -4,6 +4,7 @@ pub mod Fields
 pub mod Formed
 pub mod Bare
 pub mod RoundTrip
+pub mod Shaped
 pub mod Reading
 pub mod Values
 pub mod Data
@@ -11,6 +12,5 @@ pub mod Counts
 pub mod Witness
 pub mod Counter
 pub mod Running
-pub mod Shaped
 pub mod AnySize
 pub mod Joined
