@@ -4,11 +4,11 @@ pub mod Fields
 pub mod Formed
 pub mod Bare
 pub mod RoundTrip
-pub mod Shaped
 pub mod Reading
 pub mod Values
 pub mod Data
 pub mod Counts
+pub mod Shaped
 pub mod Witness
 pub mod Counter
 pub mod Running
