@@ -83,7 +83,7 @@ not-the-data e = let two-is-one : _≡_ {A = ℕ} 2 1 = ap rowsOfFirst (e ∙ tw
 pub never-gathered : (how : Packing) (b : List ℕ) (n : ℕ) → Sent how twoSets b n → Reads (packetsLeft how twoSets b n) gathered → ⊥
 never-gathered how b n h r = not-the-data (data-read how twoSets b n h gathered r)
 
--- ---- what the builder leaves
+-- ---- by SetsRead, of what the builder leaves
 
 -- Of whatever script, no packets that it leaves read as tokens in which a set does not end in a DONE with its valid count: not as
 -- `lost`, not as `invented`, and not as `ended` with one of the statuses above.
