@@ -425,6 +425,7 @@ fn put_in_packets(script: &[u8], size: u16, n: u16, buf: &mut [u8]) -> Built
         return Built::Refused(BUFFER_TOO_SHORT);
     }
     put_pieces(buf, total - n as usize, script);
+    // The packets have room, so that it is cut.
     packet::cut_in_place(buf, size, n);
     Built::Written(total)
 }
