@@ -4,11 +4,11 @@ use mathlib.Core.List.{List, _∷_, [], _++_, append-assoc}
 use Prim.Native.Nat.{ℕ, zero, suc, _+_, _-_, _≤_, _<_}
 use native.Mathlib.Nat.{add-zero}
 use native.Mathlib.Omega.{arith}
-use lib.ListN.{length, take, drop, set, getD, length-drop, length-set, take-append-drop}
+use lib.ListN.{length, take, drop, set, getD, length-drop, take-append-drop}
 use lib.Seq.{length-take-le, getD-drop, take-add, drop-at, drop-cons, drop-drop}
 use Rattle.wire.specs.Over.{overwrite, Wrote}
 use Rattle.wire.proofs.Le.{bytesFrom}
-use Rattle.wire.proofs.Over.{over-more, over-cat, over-eq, drop-over, length-over, stored-four, then}
+use Rattle.wire.proofs.Over.{over-more, over-cat, over-eq, drop-over, length-over, then}
 
 -- a byte at or after what was written is as it was
 read-after : (xs l : List ℕ) (at n : ℕ) → at + length xs ≤ n → getD (overwrite l at xs) n 0 ≡ getD l n 0
@@ -23,23 +23,12 @@ bytes-are (suc k) at i l h =
     let next : suc (at + i) ≡ at + suc i = omega arith in
     rw (drop-cons l (at + i) 0 (omega arith), next, bytes-are k at (suc i) l (omega arith))
 
--- eight bytes were stored
-pub moved-eight : (l : List ℕ) (to from : ℕ) → to + 8 ≤ length l → from + 8 ≤ length l
-    → Wrote l to (take 8 (drop from l))
-    (set (set (set (set (set (set (set (set l to (getD l from 0)) (to + 1) (getD l (from + 1) 0)) (to + 2) (getD l (from + 2) 0)) (to + 3) (getD l (from + 3) 0))
-    (to + 4) (getD l (from + 4) 0)) (to + 5) (getD l (from + 5) 0)) (to + 6) (getD l (from + 6) 0)) (to + 7) (getD l (from + 7) 0))
-    (to + 8)
-moved-eight l to from h g =
-    let b : ℕ → ℕ = λ i. getD l (from + i) 0 in
-    let m : List ℕ = set (set (set (set l to (getD l from 0)) (to + 1) (b 1)) (to + 2) (b 2)) (to + 3) (b 3) in
-    let long : length m ≡ length l = simp length-set in
-    let bytes : take 8 (drop from l) ≡ getD l from 0 ∷ b 1 ∷ b 2 ∷ b 3 ∷ b 4 ∷ b 5 ∷ b 6 ∷ b 7 ∷ [] =
-    rw add-zero at (bytes-are 8 from 0 l (omega arith)) in
-    let e : to + 4 + 1 ≡ to + 5 = omega arith in
-    let f : to + 4 + 2 ≡ to + 6 = omega arith in
-    let k : to + 4 + 3 ≡ to + 7 = omega arith in
-    let n : to + 4 + 4 ≡ to + 8 = omega arith in
-    rw bytes (rw (e, f, k, n) at (then (stored-four l to (getD l from 0) (b 1) (b 2) (b 3) (omega arith)) (stored-four m (to + 4) (b 4) (b 5) (b 6) (b 7) (omega arith))))
+-- eight bytes were written, four and four
+pub moved-eight : (l : List ℕ) (to from : ℕ) {m k : List ℕ} {half end : ℕ} → from + 8 ≤ length l
+    → Wrote l to (getD l from 0 ∷ getD l (from + 1) 0 ∷ getD l (from + 2) 0 ∷ getD l (from + 3) 0 ∷ []) m half
+    → Wrote m half (getD l (from + 4) 0 ∷ getD l (from + 5) 0 ∷ getD l (from + 6) 0 ∷ getD l (from + 7) 0 ∷ []) k end
+    → Wrote l to (take 8 (drop from l)) k end
+moved-eight l to from h w v = rw (rw add-zero at (bytes-are 8 from 0 l (omega arith))) (then w v)
 
 -- a run of what was moved, and more of it
 pub moved-more : (l m : List ℕ) (to from i n : ℕ) {k : List ℕ} {end : ℕ} → to ≤ from → from + i + n ≤ length l → m ≡ overwrite l to (take i (drop from l))

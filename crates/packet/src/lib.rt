@@ -5,6 +5,7 @@ use refusals::HEADER_TOO_SHORT;
 use refusals::UNKNOWN_PACKET_TYPE;
 ghost use mathlib.Core.Path.{_≡_};
 ghost use mathlib.Core.Bool.{cond};
+ghost use mathlib.Core.List.{[], _∷_};
 ghost use Prim.Native.Nat.{_+_, _-_, _≤_, _<_, min};
 ghost use lib.ListN.{length, take, drop};
 ghost use Rattle.wire.specs.Over.{overwrite, PlaceAfter, Wrote};
@@ -238,6 +239,18 @@ fn part_header(number: usize, last: bool, len: usize) -> PacketHeader
     }
 }
 
+// Four bytes at a place of a buffer that has room for them.
+fn put_four(buf: &mut [u8], at: usize, b0: u8, b1: u8, b2: u8, b3: u8) -> usize
+    requires { ⌜ at + 4 ≤ length (now buf) ⌝ }
+    ensures { λ r. ⌜ Wrote (now (buf .entry)) at (b0 ∷ b1 ∷ b2 ∷ b3 ∷ []) (now (buf .exit)) r ⌝ }
+{
+    buf[at] = b0;
+    buf[at + 1] = b1;
+    buf[at + 2] = b2;
+    buf[at + 3] = b3;
+    at + 4
+}
+
 // Eight bytes of a buffer moved down in it: all are read before one is written.
 fn move_eight(buf: &mut [u8], to: usize, from: usize) -> usize
     requires { ⌜ (to ≤ from) × (from + 8 ≤ length (now buf)) ⌝ }
@@ -251,15 +264,8 @@ fn move_eight(buf: &mut [u8], to: usize, from: usize) -> usize
     let b5 = buf[from + 5];
     let b6 = buf[from + 6];
     let b7 = buf[from + 7];
-    buf[to] = b0;
-    buf[to + 1] = b1;
-    buf[to + 2] = b2;
-    buf[to + 3] = b3;
-    buf[to + 4] = b4;
-    buf[to + 5] = b5;
-    buf[to + 6] = b6;
-    buf[to + 7] = b7;
-    to + 8
+    let half = put_four(buf, to, b0, b1, b2, b3);
+    put_four(buf, half, b4, b5, b6, b7)
 }
 
 // Bytes of a buffer moved down in it, one by one.

@@ -21,17 +21,20 @@ pub(crate) fn parse(line: &[u8], input: &[u8], out: &mut [u8]) -> usize {
     let lent = words::u64_at(line, 1) as usize;
     let answer = parse_lent(input, &mut ids, lent);
     match answer {
-        Answer::Read { login, ids: count } => {
-            let at = tell_login(login, out);
-            let at = told::number(out, at, count as u64);
-            let at = tell_ids(wire::part_of(&ids, calls::first(count)), out, at);
-            calls::tell_spilled(&ids, count, out, at)
-        }
+        Answer::Read { login, ids: count } => tell_read(login, &ids, count, out),
         Answer::Refused(number) => {
             let at = told::refused(out, 0, number);
             calls::tell_spilled(&ids, 0, out, at)
         }
     }
+}
+
+// A login with its ids, the first of those in the buffer.
+fn tell_read(login: Login, ids: &[u8], count: usize, out: &mut [u8]) -> usize {
+    let at = tell_login(login, out);
+    let at = told::number(out, at, count as u64);
+    let at = tell_ids(wire::part_of(ids, calls::first(count)), out, at);
+    calls::tell_spilled(ids, count, out, at)
 }
 
 fn parse_lent(body: &[u8], ids: &mut [u8], lent: usize) -> Answer {

@@ -1,5 +1,4 @@
 -- `packet::move_eight` meets its contract. Assumes nothing.
-use lib.ListN.{length-set}
 use native.Mathlib.Omega.{arith}
 use denote.Ref.{now}
 use Rattle.packet.proofs.Moved.{moved-eight}
@@ -52,59 +51,21 @@ add-b7 c = search needs
 slice-read-b7 : tie.Need-slice-read-b7
 slice-read-b7 c = search needs
 
-slice-write-buf : tie.Need-slice-write-buf
-slice-write-buf c = search needs
+put-four-requires : tie.Need-put-four-requires
+put-four-requires c κs = search needs
 
-add-buf : tie.Need-add-buf
-add-buf c = search needs
-
-slice-write-buf-2 : tie.Need-slice-write-buf-2
-slice-write-buf-2 c = simp length-set (search needs)
-
-add-buf-2 : tie.Need-add-buf-2
-add-buf-2 c = search needs
-
-slice-write-buf-3 : tie.Need-slice-write-buf-3
-slice-write-buf-3 c = simp length-set (search needs)
-
-add-buf-3 : tie.Need-add-buf-3
-add-buf-3 c = search needs
-
-slice-write-buf-4 : tie.Need-slice-write-buf-4
-slice-write-buf-4 c = simp length-set (search needs)
-
-add-buf-4 : tie.Need-add-buf-4
-add-buf-4 c = search needs
-
-slice-write-buf-5 : tie.Need-slice-write-buf-5
-slice-write-buf-5 c = simp length-set (search needs)
-
-add-buf-5 : tie.Need-add-buf-5
-add-buf-5 c = search needs
-
-slice-write-buf-6 : tie.Need-slice-write-buf-6
-slice-write-buf-6 c = simp length-set (search needs)
-
-add-buf-6 : tie.Need-add-buf-6
-add-buf-6 c = search needs
-
-slice-write-buf-7 : tie.Need-slice-write-buf-7
-slice-write-buf-7 c = simp length-set (search needs)
-
-add-buf-7 : tie.Need-add-buf-7
-add-buf-7 c = search needs
-
-slice-write-buf-8 : tie.Need-slice-write-buf-8
-slice-write-buf-8 c = simp length-set (search needs)
-
-add-result : tie.Need-add-result
-add-result c = search needs
+put-four-requires-2 : tie.Need-put-four-requires-2
+put-four-requires-2 c κs = search needs
 
 same-length : tie.Need-same-length
-same-length c = simp length-set (search needs)
+same-length c = search needs
 
 returns : tie.Need-returns
-returns c = let a = c .before .before .before .before .before .before .before .before .args in moved-eight (now (a .buf)) (a .to) (a .from) (omega arith) (omega arith)
+returns c = let d = c .before .before in
+    let w = d .before .before .before .before in
+    let s = w .before .before .before .before .before .before .before .before .before .before .before in
+    let a = s .args in
+    moved-eight (now (a .buf)) (a .to) (a .from) (s .pre .1) (w .put-four .ensures) (d .put-four2 .ensures)
 
 pub move-eight-spec : {M : Type 1} → statement M
 move-eight-spec =
@@ -125,21 +86,7 @@ move-eight-spec =
     slice-read-b6
     add-b7
     slice-read-b7
-    slice-write-buf
-    add-buf
-    slice-write-buf-2
-    add-buf-2
-    slice-write-buf-3
-    add-buf-3
-    slice-write-buf-4
-    add-buf-4
-    slice-write-buf-5
-    add-buf-5
-    slice-write-buf-6
-    add-buf-6
-    slice-write-buf-7
-    add-buf-7
-    slice-write-buf-8
-    add-result
+    put-four-requires
+    put-four-requires-2
     same-length
     returns)
