@@ -1,5 +1,4 @@
 -- `packet::move_eight` meets its contract. Assumes nothing.
-use native.Mathlib.Omega.{arith}
 use denote.Ref.{now}
 use Rattle.packet.proofs.Moved.{moved-eight}
 use borrow.Author.Needs.{needs}
