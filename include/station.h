@@ -29,8 +29,8 @@ extern "C" {
 #endif
 
 /* The version of these calls (CHANGELOG.md). An answer that changes changes the version. */
-#define STATION_VERSION_MAJOR 4
-#define STATION_VERSION_MINOR 2
+#define STATION_VERSION_MAJOR 5
+#define STATION_VERSION_MINOR 0
 
 /* The most bytes of a reply, and of a reply in packets: a `buf` of so many is never too short. */
 #define STATION_MOST_REPLY 65535

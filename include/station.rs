@@ -8,8 +8,8 @@
 // Every edition takes this file from Rust 1.82 on. For an older compiler leave out the word `unsafe` before `extern`. A
 // call is unsafe, because nothing checks that a pointer is valid for the length that follows it.
 
-pub const STATION_VERSION_MAJOR: u32 = 4;
-pub const STATION_VERSION_MINOR: u32 = 2;
+pub const STATION_VERSION_MAJOR: u32 = 5;
+pub const STATION_VERSION_MINOR: u32 = 0;
 pub const STATION_MOST_REPLY: usize = 65535;
 pub const STATION_MOST_PACKETS: usize = 66575;
 

@@ -228,11 +228,7 @@ def class_misfit(records, number):
 
 def column_misfit(records, number, column):
     at = of_kind(records, in_set(records, number), COLUMN)[column]
-    if column >= MOST_COLUMNS:
-        return at, f"column {column}, counted from 0; a set that fits has at most {MOST_COLUMNS} columns"
-    name = records[at][2][6:].decode("utf-16-le")
-    pair = next((each for each in name if ord(each) > 0xFFFF), None)
-    return at, pair and f'its name holds "{pair}", two units that are counted as one, so that it is read too short'
+    return at, f"column {column}, counted from 0; a set that fits has at most {MOST_COLUMNS} columns"
 
 
 def values_for(type_name):

@@ -4,9 +4,8 @@ Rests on nothing of tools/script.py, which the scripts are for.
 """
 import struct
 
-NAMES = "abcXYZ 019_-\"\\#é中"
-# Besides, what does not print, ends lines elsewhere, or takes two units.
-LETTERS = NAMES + "*/'\n\r\t\0\x7F\x85\xA0€Ωж\u200B\u2028\uFEFF\uFFFF\uE000😀𝄞\U000E0001\U0010FFFF"
+# Letters, signs of the text form, what does not print, ends lines elsewhere, or takes two units.
+LETTERS = "abcXYZ 019_-\"\\#é中*/'\n\r\t\0\x7F\x85\xA0€Ωж\u200B\u2028\uFEFF\uFFFF\uE000😀𝄞\U000E0001\U0010FFFF"
 INTEGERS = {1: 1, 2: 2, 3: 4, 4: 8}
 LATIN = bytes.fromhex("0904D00034")
 
@@ -15,13 +14,13 @@ def record(kind, payload=b""):
     return struct.pack("<IH", len(payload), kind) + payload
 
 
-def text(source, most, letters=LETTERS):
-    return "".join(source.choice(letters) for _ in range(source.randint(0, most))).encode("utf-16-le")
+def text(source, most):
+    return "".join(source.choice(LETTERS) for _ in range(source.randint(0, most))).encode("utf-16-le")
 
 
 def column(source, type_byte):
     collation = source.choice((LATIN, source.randbytes(5)))
-    return record(2, bytes([type_byte]) + collation + text(source, 8, source.choice((NAMES, NAMES, NAMES, LETTERS))))
+    return record(2, bytes([type_byte]) + collation + text(source, 8))
 
 
 def info(source, kind):
@@ -67,7 +66,8 @@ def fitting_value(source, type_byte):
 
 def set_records(source, fits):
     records = [record(1, b"" if fits or source.random() < 0.6 else source.randbytes(source.choice((1, 6))))]
-    types = [source.randint(1, 8) for _ in range(source.choice((0, 1, 3, 6)))]
+    counts = (0, 1, 3, 6) if fits or source.random() < 0.98 else (128, 129, 130)
+    types = [source.randint(1, 8) for _ in range(source.choice(counts))]
     records += [column(source, type_byte) for type_byte in types]
     records += [error(source, kind) for kind, chance in ((7, 0.2), (8, 0.08)) if source.random() < chance]
     records += [info(source, 3) for _ in range(source.choice((0, 0, 1, 2)))]

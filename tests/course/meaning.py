@@ -114,11 +114,6 @@ def misfit_place(lines, misfit):
     return cells[int(rest[1])] if has_columns and int(rest[1]) < len(cells) else row
 
 
-def wrong_column(place, words):
-    """Whether a column, counted from 0 in its set, is one too many or has a surrogate pair in its name."""
-    return place >= MOST_COLUMNS or any(ord(character) > 0xFFFF for character in json.loads(words[1]))
-
-
 def wrong_cell(types, place, words):
     """Whether a cell, counted from 0 in its row, has no column or is not of its type."""
     if place >= len(types) or words[0] not in (types[place], NULLS.get(types[place])):
@@ -143,8 +138,8 @@ def fit(lines):
             if words:
                 return f"misfit class {number}"
         elif name == "column":
-            if wrong_column(len(types), words):
-                return f"misfit column {number} {len(types)}"
+            if len(types) == MOST_COLUMNS:
+                return f"misfit column {number} {MOST_COLUMNS}"
             types.append(words[0])
         elif name == "row":
             row, cells = row + 1, 0

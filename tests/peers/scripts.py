@@ -72,7 +72,7 @@ class Script:
     def column(self, type_byte):
         drawn = struct.pack("<IB", self.source.getrandbits(32) & ~0x0C000000, self.source.getrandbits(8))
         collation = LATIN if type_byte == 7 else drawn
-        name = text(self.source, 10)
+        name = text(self.source, 10, LETTERS + PAIRS)
         self.put(COLUMN, bytes([type_byte]) + collation + name)
         sent = collation if type_byte in WITH_COLLATION else b""
         self.tokens.append(("column", 0, 0, *TYPES[type_byte], sent, name))
@@ -205,6 +205,28 @@ def long_scripts():
         script += record(CELL, bytes([MAX_VALUES[type_byte]])) + record(CHUNK, held) + record(CHUNK, unit)
         column = ("column", 0, 0, *TYPES[type_byte], collation, b"")
         yield script, [("columns", 1), column, ("row", held + unit), ("done", LAST, SELECT, 1)]
+
+
+def named_scripts():
+    """Scripts whose columns have names with surrogate pairs: one pair, 255 units of which the last two are a pair, 127
+    pairs and a unit; and one of all three."""
+    names = [each.encode("utf-16-le") for each in ("😀", "n" * 253 + "𝄞", "😀" * 127 + "n")]
+    for held in ([name] for name in names):
+        yield named_script(held)
+    yield named_script(names)
+
+
+def named_script(names):
+    """A set of two rows and a set of one, each with a column Int for each name."""
+    columns = [("columns", len(names)), *(("column", 0, 0, *TYPES[3], b"", name) for name in names)]
+    script, tokens = b"", []
+    for rows, status in (2, MORE), (1, LAST):
+        values = [range(row, row + len(names)) for row in range(rows)]
+        cells = [b"".join(record(CELL, struct.pack("<Bi", 3, value)) for value in row) for row in values]
+        script += record(SET) + b"".join(record(COLUMN, b"\3" + LATIN + name) for name in names)
+        script += b"".join(record(ROW) + each for each in cells)
+        tokens += [*columns, *(("row", *row) for row in values), ("done", status, SELECT, rows)]
+    return script, tokens
 
 
 def longest_scripts():

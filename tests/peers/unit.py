@@ -23,14 +23,14 @@ class Unit:
 
 
 @contextlib.contextmanager
-def running(scripts):
-    """A unit that answers with these scripts, `script N` with the Nth; its process ends with the block."""
+def running(scripts, tool=TOOL):
+    """A unit that answers with these scripts, `script N` with the Nth; its process ends with the block. `tool` serves."""
     with tempfile.TemporaryDirectory() as name:
         folder = pathlib.Path(name)
         journal, paths = folder / "journal", [folder / f"{i}.script" for i in range(len(scripts))]
         for path, script in zip(paths, scripts):
             path.write_bytes(script)
-        command = [sys.executable, TOOL, "--port", "0", "--journal", journal, "--route", *paths]
+        command = [sys.executable, tool, "--port", "0", "--journal", journal, "--route", *paths]
         with subprocess.Popen(command, stdout=subprocess.PIPE, text=True) as process:
             try:
                 yield Unit(listened(process), journal)

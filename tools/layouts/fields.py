@@ -122,11 +122,11 @@ def bits(number, names, width):
     return words + ([f"bits {other:0{width}X}"] if other else [])
 
 
-def counted_text(f, token, field, word, size, noun="unit", indent=4):
+def counted_text(f, token, field, word, size, indent=4):
     """A line of a count and a text of so many units."""
     line = f.line(token, indent, word)
-    count = f.number(f"{field} count", size, lambda count: many(count, noun))
-    line.comment = f"{word}: {many(count, noun)}, {f.text(field, count)}"
+    count = f.number(f"{field} count", size, lambda count: many(count, "unit"))
+    line.comment = f"{word}: {many(count, 'unit')}, {f.text(field, count)}"
 
 
 def tds_version(number):

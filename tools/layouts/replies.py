@@ -73,7 +73,7 @@ def read_column(f):
     code, limit, type_words = read_type(f)
     words = [f"user type {user}" if user else "user type", f"flags {flags:04X}" if flags else "flags", *type_words]
     line.comment = "column: " + ", ".join(words)
-    counted_text(f, "COLMETADATA", "ColName", "name", 1, "character")
+    counted_text(f, "COLMETADATA", "ColName", "name", 1)
     return code, limit
 
 

@@ -1,13 +1,13 @@
 -- The misfits of a script stand in the order of document 02, so that the fit check's answer is the first. Assumes nothing.
-use Prim.Native.Nat.{ℕ, suc, _+_, _<_, _≤_}
+use Prim.Native.Nat.{ℕ, suc, _+_, _<_}
 use mathlib.Core.Path.{_≡_, refl, sym, ap, _∙_}
-use mathlib.Core.Bool.{Bool, true, false, cond, Bool-set}
+use mathlib.Core.Bool.{true, false, Bool-set}
 use mathlib.Core.Logic.{inl, inr, ∥∥₁-elim}
 use mathlib.Core.List.{List, [], _∷_, _++_, map, List·Mem, List·Memᴰ, List·Memᴰ·head}
 use mathlib.Core.List.{not-mem-nil, List·Memᴰ·not-nil, List·Memᴰ·cases-cons, List·Memᴰ·append-cases, List·Memᴰ·eq-of-singleton, Memᴰ·of-map}
-use mathlib.Core.List.{Pairwise, Pairwise·nil, Pairwise·cons, Pairwise·map, pairwise-singleton, pairwise-append, rel-of-pairwise-cons}
+use mathlib.Core.List.{Pairwise, Pairwise·nil, Pairwise·map, pairwise-singleton, pairwise-append, rel-of-pairwise-cons}
 use native.Mathlib.Omega.{arith}
-use lib.Dec.{eqb}
+use lib.Dec.{eqb, leb}
 use lib.ListN.{length}
 use Rattle.wire.proofs.Cases.{by-test, clash}
 use Rattle.wire.proofs.Rising.{RiseFrom, none-rises, rises}
@@ -17,7 +17,7 @@ use Rattle.emission.specs.Refusal.{refusalOf}
 use Rattle.fit.specs.declared.Misfit.{Misfit}
 use Rattle.fit.specs.declared.Misfit.the-variants.{Classification, Column, Cell}
 use Rattle.fit.specs.declared.Fit.the-variants.{Yes, No}
-use Rattle.fit.specs.Misfits.{cellFits, wrongCells, wrongInRow, columnFits, wrongColumns, typesIn}
+use Rattle.fit.specs.Misfits.{cellFits, wrongCells, wrongInRow, wrongColumns, typesIn}
 use Rattle.fit.specs.Misfits.{classificationMisfits, rowMisfits, rowsMisfits, setMisfits, setsMisfits, unless, misfits, firstOf, fitOf}
 use Rattle.fit.specs.First.{place, earlier, before, FirstMisfit, FirstAnswered, FitsWithout}
 use Rattle.fit.proofs.Order.{less-head, more-head, same-head, between, not-earlier, not-self, not-back, in-order}
@@ -36,10 +36,9 @@ unfolding wrongInRow
 row-rises [] ps = rises false 0 [] (none-rises 1)
 row-rises (t ∷ ts) ps = cells-rise 0 (t ∷ ts) ps
 
-columns-rise : (c : ℕ) (ps : List (List ℕ)) → RiseFrom c (wrongColumns c ps)
+columns-rise : (ps : List (List ℕ)) → RiseFrom 128 (wrongColumns ps)
 unfolding wrongColumns
-columns-rise c [] = none-rises c
-columns-rise c (p ∷ ps) = rises (columnFits c p) c (wrongColumns (suc c) ps) (columns-rise (suc c) ps)
+columns-rise ps = rises (leb (length ps) 128) 128 [] (none-rises 129)
 
 -- ---- misfits in order, from one place on and before another
 
@@ -107,11 +106,11 @@ classification-stands set [] = none-stand (set ∷ []) (set ∷ 2 ∷ 0 ∷ [])
 classification-stands set (b ∷ p) =
     one-stands (set ∷ []) (set ∷ 2 ∷ 0 ∷ []) (Classification set) (same-head set (1 ∷ 0 ∷ 0 ∷ []) []) (same-head set (1 ∷ 0 ∷ 0 ∷ []) (2 ∷ 0 ∷ []))
 
-columns-stand : (set : ℕ) (ps : List (List ℕ)) → Stand (set ∷ 2 ∷ 0 ∷ []) (set ∷ 3 ∷ 0 ∷ []) (map (Column set) (wrongColumns 0 ps))
+columns-stand : (set : ℕ) (ps : List (List ℕ)) → Stand (set ∷ 2 ∷ 0 ∷ []) (set ∷ 3 ∷ 0 ∷ []) (map (Column set) (wrongColumns ps))
 unfolding place earlier
 columns-stand set ps =
     numbered (set ∷ 2 ∷ 0 ∷ []) (set ∷ 3 ∷ 0 ∷ []) (Column set) (λ n. refl) (λ xs. same-head set (2 ∷ 0 ∷ xs) (3 ∷ 0 ∷ []))
-    0 (wrongColumns 0 ps) (columns-rise 0 ps)
+    128 (wrongColumns ps) (columns-rise ps)
 
 row-stands : (set row : ℕ) (types : List ℕ) (r : ScriptRow) → Stand (set ∷ 3 ∷ row ∷ []) (set ∷ 3 ∷ suc row ∷ []) (rowMisfits set row types r)
 unfolding place earlier

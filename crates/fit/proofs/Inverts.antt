@@ -1,18 +1,16 @@
 -- What it says of a script's records that they have no misfit (document 01, 'A script fits if ..'): each set's classification
--- is empty, it has at most 128 columns with no surrogate pair in a name, and each row has a cell for each of its columns, one
--- at least, of the column's type. Assumes nothing.
+-- is empty, it has at most 128 columns, and each row has a cell for each of its columns, one at least, of the column's type. Assumes nothing.
 use Prim.Native.Nat.{ℕ, suc, _+_, _≤_, _<_}
 use mathlib.Core.Path.{_≡_, refl, _∙_}
-use mathlib.Core.Bool.{Bool, true, false, cond, not, and-eq-true-iff, _&&_}
+use mathlib.Core.Bool.{Bool, true, false, cond, and-eq-true-iff, _&&_}
 use mathlib.Core.Option.{none}
 use mathlib.Core.List.{List, [], _∷_, _++_, cons≢nil, append-eq-nil-iff, map-eq-nil-iff}
 use native.Mathlib.Omega.{arith}
-use lib.Dec.{eqb, leb, ltb}
+use lib.Dec.{eqb, leb}
 use lib.ListN.{length, drop}
-use borrow.Author.Tests.{ne-eqb, eqb-true, eqb-false, leb-true, ltb-true, not-true}
+use borrow.Author.Tests.{ne-eqb, eqb-true, eqb-false, leb-true}
 use Rattle.wire.proofs.Cases.{by-test}
 use Rattle.wire.specs.Le.{leAt}
-use Rattle.text.specs.Surrogates.{hasPair}
 use Rattle.script.specs.Records.{Item, item, records}
 use Rattle.script.specs.Shape.{cellShaped}
 use Rattle.script.specs.Runs.{ahead}
@@ -20,7 +18,7 @@ use Rattle.emission.specs.Walk.{errorIn, rowsAfter}
 use Rattle.emission.specs.Refusal.{refusalOf}
 use Rattle.emission.proofs.BySets.{no-verdict}
 use Rattle.fit.proofs.BySets.{by-sets}
-use Rattle.fit.specs.Misfits.{cellFits, wrongCells, wrongInRow, columnFits, wrongColumns, typesIn, firstOf, fitOf}
+use Rattle.fit.specs.Misfits.{cellFits, wrongCells, wrongInRow, wrongColumns, typesIn, firstOf, fitOf}
 use Rattle.fit.specs.Records.{cellsIn, beginMisfits, cellMisfits, misfitsAt, misfitsFrom, setsFrom, terminal, misfitsIn}
 use Rattle.fit.specs.declared.Misfit.{Misfit}
 use Rattle.fit.specs.declared.Misfit.the-variants.{Column, Cell}
@@ -38,20 +36,9 @@ kept false xs ys c h = absurd (cons≢nil h)
 
 -- ---- columns
 
--- no name has a surrogate pair
-abbrev pub Pairless : List (List ℕ) → Type 0
-Pairless [] = Unit {0}
-Pairless (p ∷ ps) = (hasPair (drop 6 p) ≡ false) × Pairless ps
-
-columns-fit : (c : ℕ) (ps : List (List ℕ)) → c ≤ 128 → wrongColumns c ps ≡ [] → (c + length ps ≤ 128) × Pairless ps
-unfolding wrongColumns columnFits
-columns-fit c [] h e = (omega arith, tt)
-columns-fit c (p ∷ ps) h e =
-    let k = kept (columnFits c p) (wrongColumns (suc c) ps) (wrongColumns (suc c) ps) c e in
-    let b = and-eq-true-iff (ltb c 128) (not (hasPair (drop 6 p))) .0 (k .0) in
-    let l = ltb-true c 128 (b .0) in
-    let r = columns-fit (suc c) ps l (k .1) in
-    (omega (arith, r .0), (not-true (hasPair (drop 6 p)) (b .1), r .1))
+columns-fit : (ps : List (List ℕ)) → wrongColumns ps ≡ [] → length ps ≤ 128
+unfolding wrongColumns
+columns-fit ps e = leb-true (length ps) 128 (kept (leb (length ps) 128) [] [] 128 e .0)
 
 -- ---- cells
 
@@ -133,12 +120,10 @@ module _ (t : ℕ) (p : List ℕ) (shape : cellShaped p ≡ true) (fits : cellFi
 
 -- ---- sets and rows
 
-pub set-fits : (set : ℕ) (p : List ℕ) (rs : List Item) → beginMisfits set p rs ≡ [] → (p ≡ []) × (length (ahead 2 rs) ≤ 128) × Pairless (ahead 2 rs)
+pub set-fits : (set : ℕ) (p : List ℕ) (rs : List Item) → beginMisfits set p rs ≡ [] → (p ≡ []) × (length (ahead 2 rs) ≤ 128)
 unfolding beginMisfits
 set-fits set [] rs e =
-    let w = map-eq-nil-iff (Column set) {l = wrongColumns 0 (ahead 2 rs)} .0 e in
-    let f = columns-fit 0 (ahead 2 rs) (omega arith) w in
-    (refl, omega (arith, f .0), f .1)
+    (refl, columns-fit (ahead 2 rs) (map-eq-nil-iff (Column set) {l = wrongColumns (ahead 2 rs)} .0 e))
 set-fits set (b ∷ p) rs e = absurd (cons≢nil e)
 
 pub row-fits : (set row : ℕ) (types : List ℕ) (rs : List Item) → cellMisfits set row types rs ≡ [] → (0 < length types) × Match types (cellsIn rs)

@@ -1,6 +1,5 @@
 pub mod Order
 pub mod First
-pub mod TooMany
 pub mod Worked
 pub mod BySets
 pub mod Skip

@@ -88,7 +88,7 @@ classified set [] rs h = absurd (h refl)
 classified set (b ∷ p) rs h = refl
 
 unclassified : (set : ℕ) (p : List ℕ) (rs : List Item) → length p ≡ 0
-    → setFrom set p rs ≡ map (Column set) (wrongColumns 0 (ahead 2 rs)) ++ misfitsFrom set 0 (typesIn (ahead 2 rs)) rs
+    → setFrom set p rs ≡ map (Column set) (wrongColumns (ahead 2 rs)) ++ misfitsFrom set 0 (typesIn (ahead 2 rs)) rs
 unfolding beginMisfits
 unclassified set [] rs h = refl
 unclassified set (b ∷ p) rs h = absurd (omega arith)
@@ -105,8 +105,8 @@ module _ (s : List ℕ) (set : ℕ) (p : List ℕ) (from : ℕ) where
     pub set-types : {count to : ℕ} → r ≡ Columns.Right count to → count ≤ length types
     set-types h = (rw h at walked) .0
 
-    pub set-wrong : {c : ℕ} → r ≡ Columns.Wrong c → SetWalked s set from (setFrom set p (records (drop from s))) (Set.Wrong (Column set c))
-    set-wrong h = let w = rw h at walked in (rw (unclassified set p (records (drop from s)) empty, w .1), tt)
+    pub set-wrong : r ≡ Columns.TooMany → SetWalked s set from (setFrom set p (records (drop from s))) (Set.Wrong (Column set 128))
+    set-wrong h = let w = rw h at walked in (rw (unclassified set p (records (drop from s)) empty, w), tt)
 
     pub set-rows : {count to : ℕ} (w : Set) → r ≡ Columns.Right count to → SetWalked s set to (misfitsFrom set 0 (take count types) (records (drop to s))) w
         → SetWalked s set from (setFrom set p (records (drop from s))) w

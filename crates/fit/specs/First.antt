@@ -1,6 +1,6 @@
 -- Which misfit of a script is its first (document 02, 2026-06): 'by set; within a set the classification, then columns, then cells by
 -- row and column'. The order is that of the misfits themselves, in whatever list they stand. Rests on Misfits.
-use Prim.Native.Nat.{ℕ, _≤_}
+use Prim.Native.Nat.{ℕ}
 use mathlib.Core.Path.{_≡_}
 use mathlib.Core.Bool.{Bool, true, false, cond}
 use mathlib.Core.List.{List, [], _∷_, List·Mem}
@@ -60,7 +60,3 @@ FirstAnswered = (s : List ℕ) (m : Misfit) → refusalOf s ≡ 0 → IsFirst s 
 -- a script that fits has none
 abbrev pub FitsWithout : Type 0
 FitsWithout = (s : List ℕ) → fitOf s ≡ Yes → (m : Misfit) → Has s m → ⊥
-
--- 'for too many columns, column 128 is the misfit': no column after it is answered
-abbrev pub AtMost128 : Type 0
-AtMost128 = (s : List ℕ) (set column : ℕ) → fitOf s ≡ No (Column set column) → column ≤ 128

@@ -1,13 +1,12 @@
 -- Which scripts fit, and which misfits the others have (document 01, 'The script': 'fits' and 'misfit' are its terms). Sets,
--- rows, columns and cells are numbered from 0. Rests on text's surrogates, script's sets and emission's refusals.
+-- rows, columns and cells are numbered from 0. Rests on script's sets and emission's refusals.
 -- docs/FORMATS.md, 'What fits', has it in words.
 use Prim.Native.Nat.{ℕ, suc}
 use mathlib.Core.List.{List, [], _∷_, _++_, map}
-use mathlib.Core.Bool.{Bool, cond, not, _&&_}
-use lib.Dec.{eqb, leb, ltb}
+use mathlib.Core.Bool.{Bool, cond, _&&_}
+use lib.Dec.{eqb, leb}
 use lib.ListN.{length, drop}
 use Rattle.wire.specs.Le.{leAt}
-use Rattle.text.specs.Surrogates.{hasPair}
 use Rattle.script.specs.Records.{records}
 use Rattle.script.specs.Sets.{ScriptCell, ScriptRow, ScriptSet, setsIn}
 use Rattle.emission.specs.Refusal.{refusalOf}
@@ -43,14 +42,9 @@ wrongInRow (t ∷ ts) ps = wrongCells 0 (t ∷ ts) ps
 
 -- ---- columns
 
--- whether column c may stand: at most 128 columns, no surrogate pair in a name
-unfoldable pub columnFits : ℕ → List ℕ → Bool
-columnFits c p = ltb c 128 && not (hasPair (drop 6 p))
-
--- the misfits among columns, from column c on
-unfoldable pub wrongColumns : ℕ → List (List ℕ) → List ℕ
-wrongColumns c [] = []
-wrongColumns c (p ∷ ps) = cond (columnFits c p) (wrongColumns (suc c) ps) (c ∷ wrongColumns (suc c) ps)
+-- the misfits among columns: none where there are at most 128, and of too many column 128, and no other (document 02, 2026-06)
+unfoldable pub wrongColumns : List (List ℕ) → List ℕ
+wrongColumns ps = cond (leb (length ps) 128) [] (128 ∷ [])
 
 -- the types of columns: their type bytes
 unfoldable pub typesIn : List (List ℕ) → List ℕ
@@ -76,7 +70,7 @@ rowsMisfits set row types (r ∷ rs) = rowMisfits set row types r ++ rowsMisfits
 unfoldable pub setMisfits : ℕ → ScriptSet → List Misfit
 setMisfits set s =
     classificationMisfits set (s .classification)
-    ++ map (Column set) (wrongColumns 0 (s .columns))
+    ++ map (Column set) (wrongColumns (s .columns))
     ++ rowsMisfits set 0 (typesIn (s .columns)) (s .rows)
 
 -- of the sets from one on, whose number is set

@@ -20,7 +20,7 @@ cellsIn (item k p ∷ rs) = cond (eqb k 5) (p ∷ cellsIn rs) (cond (eqb k 6) (c
 
 -- the misfits of a set's beginning: its classification p, then the columns that stand next
 unfoldable pub beginMisfits : ℕ → List ℕ → List Item → List Misfit
-beginMisfits set p rs = classificationMisfits set p ++ map (Column set) (wrongColumns 0 (ahead 2 rs))
+beginMisfits set p rs = classificationMisfits set p ++ map (Column set) (wrongColumns (ahead 2 rs))
 
 -- the misfits of a row
 unfoldable pub cellMisfits : ℕ → ℕ → List ℕ → List Item → List Misfit

@@ -40,11 +40,11 @@ abbrev pub RowWalked : List ℕ → ℕ → List ℕ → Row → Type 0
 RowWalked s from types (Row.Right to) = (wrongInRow types (cellsIn (records (drop from s))) ≡ []) × Skips s from to
 RowWalked s from types (Row.Wrong n) = First (wrongInRow types (cellsIn (records (drop from s)))) n
 
--- a set's columns: how many there are, with their types, and the place after them, or the first misfit
+-- a set's columns: how many there are, with their types, and the place after them; or they are too many
 abbrev pub ColumnsWalked : List ℕ → ℕ → List ℕ → Columns → Type 0
 ColumnsWalked s from types (Columns.Right count to) =
-    (count ≤ length types) × (wrongColumns 0 (ahead 2 (records (drop from s))) ≡ []) × (typesIn (ahead 2 (records (drop from s))) ≡ take count types) × Skips s from to
-ColumnsWalked s from types (Columns.Wrong n) = First (wrongColumns 0 (ahead 2 (records (drop from s)))) n
+    (count ≤ length types) × (wrongColumns (ahead 2 (records (drop from s))) ≡ []) × (typesIn (ahead 2 (records (drop from s))) ≡ take count types) × Skips s from to
+ColumnsWalked s from types Columns.TooMany = wrongColumns (ahead 2 (records (drop from s))) ≡ 128 ∷ []
 
 -- the first misfit of the sets from one on, whose number is set: its own, or that of the sets after it
 abbrev pub goesOn : List ℕ → ℕ → Set → Fit

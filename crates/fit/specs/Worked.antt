@@ -1,14 +1,19 @@
 -- Misfits in their order, and scripts with what the fit check answers, smallest inputs first. Rests on Misfits and First.
-use Prim.Native.Nat.{ℕ}
+use Prim.Native.Nat.{ℕ, _+_}
 use mathlib.Core.Path.{_≡_}
 use mathlib.Core.Bool.{Bool, true, not, _&&_}
 use mathlib.Core.List.{List, [], _∷_, _++_, map}
+use lib.ListN.{length, replicate}
+use Rattle.wire.specs.Le.{le}
 use Rattle.wire.specs.Be.{be}
+use Rattle.token.specs.Tokens.{joined}
+use Rattle.script.specs.Records.{records}
+use Rattle.script.specs.Sets.{setsIn}
 use Rattle.fit.specs.declared.Misfit.{Misfit}
 use Rattle.fit.specs.declared.Misfit.the-variants.{Classification, Column, Cell}
 use Rattle.fit.specs.declared.Fit.{Fit}
 use Rattle.fit.specs.declared.Fit.the-variants.{Yes, No, Refused}
-use Rattle.fit.specs.Misfits.{fitOf}
+use Rattle.fit.specs.Misfits.{misfits, fitOf}
 use Rattle.fit.specs.First.{before}
 
 -- ---- the order
@@ -41,19 +46,30 @@ WorkedOrder = inTurn rising ≡ true
 
 -- ---- scripts
 
--- records: a set, and one with a byte of classification; a column Int, and one whose name is a surrogate pair; a row; the value 10,
--- which goes with Int, and the value 1, which does not; a terminal error
+-- texts: a letter; U+1F600, a surrogate pair
+abbrev letter : List ℕ
+letter = be 2 0x6E00
+
+abbrev pair : List ℕ
+pair = be 4 0x3DD8_00DE
+
+-- a text so many times
+abbrev times : ℕ → List ℕ → List ℕ
+times n text = joined (replicate n text)
+
+-- records: a set, and one with a byte of classification; a column Int of a name, and so many without one; a row; the value 10, which
+-- goes with Int, and the value 1, which does not; a terminal error
 abbrev set : List ℕ
 set = be 6 0x00000000_0100
 
 abbrev classified : List ℕ
 classified = be 7 0x01000000_0100_A3
 
-abbrev int : List ℕ
-int = be 12 0x06000000_0200_03_0904D00034
+abbrev column : List ℕ → List ℕ
+column name = le 4 (6 + length name) ++ be 8 0x0200_03_0904D00034 ++ name
 
-abbrev pair : List ℕ
-pair = be 16 0x0A000000_0200_03_0904D00034_3DD800DE
+abbrev ints : ℕ → List ℕ
+ints n = times n (column [])
 
 abbrev row : List ℕ
 row = be 6 0x00000000_0400
@@ -74,19 +90,41 @@ worked =
     ([], Refused 12)
     ∷ (set, Yes)
     ∷ (classified ++ terminal, Yes)
-    -- four misfits, and three, two, one and none as they are corrected from the top
-    ∷ (classified ++ pair ++ row ++ classified, No (Classification 0))
-    ∷ (set ++ pair ++ row ++ classified, No (Column 0 0))
-    ∷ (set ++ int ++ row ++ classified, No (Cell 0 0 0))
-    ∷ (set ++ int ++ row ++ null ++ classified, No (Classification 1))
-    ∷ (set ++ int ++ row ++ null ++ set, Yes)
+    -- four misfits, and three, two, one and none as they are corrected from the top; the name is none of them
+    ∷ (classified ++ ints 129 ++ row ++ classified, No (Classification 0))
+    ∷ (set ++ ints 129 ++ row ++ classified, No (Column 0 128))
+    ∷ (set ++ column pair ++ row ++ classified, No (Cell 0 0 0))
+    ∷ (set ++ column pair ++ row ++ null ++ classified, No (Classification 1))
+    ∷ (set ++ column pair ++ row ++ null ++ set, Yes)
+    -- names of 255 units: letters and a pair, 127 pairs and a letter; 128 pairs; half a pair
+    ∷ (set ++ column (times 253 letter ++ pair), Yes)
+    ∷ (set ++ column (times 127 pair ++ letter), Yes)
+    ∷ (set ++ column (times 128 pair), Refused 16)
+    ∷ (set ++ column (be 2 0x3DD8), Refused 14)
+    -- the most columns; too many
+    ∷ (set ++ ints 128, Yes)
+    ∷ (set ++ ints 129, No (Column 0 128))
+    ∷ (set ++ ints 130, No (Column 0 128))
+    ∷ (set ++ ints 300, No (Column 0 128))
     -- a row without columns; a wrong cell and a cell too many; a cell too many; the second row, with cell 0 missing, comes after the first
     ∷ (set ++ row, No (Cell 0 0 0))
-    ∷ (set ++ int ++ row ++ tiny ++ null, No (Cell 0 0 0))
-    ∷ (set ++ int ++ row ++ null ++ null, No (Cell 0 0 1))
-    ∷ (set ++ int ++ row ++ null ++ null ++ row, No (Cell 0 0 1))
-    ∷ (set ++ int ++ row ++ null ++ row, No (Cell 0 1 0))
+    ∷ (set ++ ints 1 ++ row ++ tiny ++ null, No (Cell 0 0 0))
+    ∷ (set ++ ints 1 ++ row ++ null ++ null, No (Cell 0 0 1))
+    ∷ (set ++ ints 1 ++ row ++ null ++ null ++ row, No (Cell 0 0 1))
+    ∷ (set ++ ints 1 ++ row ++ null ++ row, No (Cell 0 1 0))
     ∷ []
 
 abbrev pub WorkedScripts : Type 0
 WorkedScripts = map (λ (line : List ℕ × Fit). fitOf (line .0)) worked ≡ map (λ (line : List ℕ × Fit). line .1) worked
+
+-- all misfits of a script
+abbrev pub misfitsOf : List ℕ → List Misfit
+misfitsOf s = misfits (setsIn (records s))
+
+-- of 129, 130 and 300 columns, column 128 is the only misfit
+abbrev pub WorkedColumns : Type 0
+WorkedColumns =
+    (misfitsOf (set ++ ints 128) ≡ [])
+    × (misfitsOf (set ++ ints 129) ≡ Column 0 128 ∷ [])
+    × (misfitsOf (set ++ ints 130) ≡ Column 0 128 ∷ [])
+    × (misfitsOf (set ++ ints 300) ≡ Column 0 128 ∷ [])

@@ -7,7 +7,7 @@ use script::Found;
 ghost use mathlib.Core.Path.{_≡_};
 ghost use lib.ListN.{length, drop};
 ghost use Rattle.script.specs.Records.{records};
-ghost use Rattle.fit.specs.Misfits.{cellFits, columnFits, firstOf, fitOf};
+ghost use Rattle.fit.specs.Misfits.{cellFits, firstOf, fitOf};
 ghost use Rattle.fit.specs.Records.{misfitsFrom, setFrom, setsFrom, terminal, misfitsIn};
 ghost use Rattle.fit.specs.Walks.{cellWrong, rowEnd, RowWalked, ColumnsWalked, SetWalked};
 
@@ -52,14 +52,6 @@ fn cell_fits(data_type: u8, p: &[u8]) -> bool
         10 => (1 <= data_type) & (data_type <= 4),
         _ => data_type == value,
     }
-}
-
-// Whether a column may stand: its number is under the most, and its name has no surrogate pair.
-fn column_fits(column: usize, p: &[u8]) -> bool
-    ensures { λ r. ⌜ r ≡ columnFits column (now (p .entry)) ⌝ }
-{
-    let pair = text::has_pair(script::rest_after(p, 6));
-    (column < MOST_COLUMNS) & !pair
 }
 
 // A row's cells: all right, with the place after them, or the number of the first that is wrong.
@@ -122,10 +114,10 @@ fn row_end(cells: usize, columns: usize, at: usize) -> Row
     }
 }
 
-// A set's columns: all right, with their count and the place after them, or the number of the first that is wrong.
+// A set's columns: their count and the place after them, or too many.
 enum Columns {
     Right { count: usize, next: usize },
-    Wrong(usize),
+    TooMany,
 }
 
 // A set's columns, from a place on. Their types go to the start of types.
@@ -144,12 +136,11 @@ fn walk_columns(s: &[u8], from: usize, types: &mut [u8; MOST_COLUMNS]) -> Column
                 if kind != script::COLUMN {
                     return Columns::Right { count, next: at };
                 }
-                let next = start + len;
-                let column = &s[start..next];
-                if !column_fits(count, column) {
-                    return Columns::Wrong(count);
+                if MOST_COLUMNS <= count {
+                    return Columns::TooMany;
                 }
-                types[count] = wire::get_u8(column, 0);
+                let next = start + len;
+                types[count] = wire::get_u8(&s[start..next], 0);
                 count += 1;
                 at = next;
             }
@@ -206,7 +197,10 @@ fn walk_set(s: &[u8], set: usize, classification: &[u8], from: usize) -> Set
     }
     let mut types = [0u8; MOST_COLUMNS];
     match walk_columns(s, from, &mut types) {
-        Columns::Wrong(column) => Set::Wrong(Misfit::Column { set, column }),
+        Columns::TooMany => Set::Wrong(Misfit::Column {
+            set,
+            column: MOST_COLUMNS,
+        }),
         Columns::Right { count, next } => walk_rows(s, set, next, &types[..count]),
     }
 }

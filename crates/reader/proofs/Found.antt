@@ -14,7 +14,7 @@ use Rattle.token.specs.Types.{lengthWidth, collationSize}
 use Rattle.token.specs.Tokens as sent
 use Rattle.text.specs.Units.{units}
 use Rattle.text.proofs.Scan.{units-half}
-use Rattle.token.specs.Tokens.{EncodedCell, integer, noInteger, bounded, long, noLong, put, putCell, nameCount, messageLength, states, valueOf, signed}
+use Rattle.token.specs.Tokens.{EncodedCell, integer, noInteger, bounded, long, noLong, put, putCell, messageLength, states, valueOf, signed}
 use Rattle.reader.specs.declared.Position.{Position}
 use Rattle.cells.specs.declared.Value.{Value}
 use Rattle.cells.specs.declared.Value.the-variants as value
@@ -174,8 +174,8 @@ module _ {p : Source} {pos : Position} {at : ℕ} {cs : List ColumnType} {k : �
       let a6 = past-word a5 in
       let to = at + 4 + 2 + 1 + lengthWidth c in
       record {
-        found = Column u f c l (record { start = to; len = collationSize c }) (record { start = to + collationSize c + 1; len = 2 * nameCount n });
-        place = to + collationSize c + 1 + 2 * nameCount n;
+        found = Column u f c l (record { start = to; len = collationSize c }) (record { start = to + collationSize c + 1; len = 2 * units n });
+        place = to + collationSize c + 1 + 2 * units n;
         is =
             cond-yes _ _ (lt-ltb 0 (pos .«columns_left») (omega arith)) ∙ number-at _ (ok .user<) (h .here) ∙ number-at _ (ok .flags<) a1
             ∙ then-at _ (type-at (ok .type-is) (ok .collation-is) a2) ∙ number-at _ (ok .name<) a5 ∙ part-at _ _ (sym (ok .name-is)) a6;

@@ -5,7 +5,6 @@ pub mod After
 pub mod Found
 pub mod Runs
 pub mod ReadBack
-pub mod Names
 pub mod Sendable
 pub mod EveryKind
 pub mod CodeTokens

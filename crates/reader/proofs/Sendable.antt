@@ -8,7 +8,7 @@ use native.Mathlib.Omega.{arith}
 use borrow.Author.Tests.{eqb-true}
 use lib.Dec.{eqb}
 use lib.ListN.{length}
-use Rattle.text.specs.Surrogates.{surrogates, paired, wellFormed, hasPair}
+use Rattle.text.specs.Surrogates.{surrogates, paired, wellFormed}
 use Rattle.token.specs.declared.SqlDataType.{SqlDataType}
 use Rattle.token.specs.declared.SqlDataType.the-variants.{TinyInt, SmallInt, Int, BigInt, NVarChar, NVarCharMax, VarCharMax, VarBinaryMax}
 use Rattle.text.specs.Units.{units}
@@ -19,7 +19,6 @@ use Rattle.token.specs.Tokens.{Token, metadata, column, row, cell, done, messag
 use Rattle.cells.specs.Cells.{isType}
 use Rattle.reader.proofs.WellFormed.{ColumnType, ColumnOk, CellOk, DoneOk, MessageOk, among, between, inRow, WF, wf-metadata, wf-column, wf-row, wf-cell, wf-message, wf-done, wf-last}
 use Rattle.cells.proofs.Types.{both}
-use Rattle.reader.proofs.Names.{name-units, name-whole}
 
 -- the types that the Rust writes are types that the reader knows
 pub sent-type : (t : SqlDataType) → isType (typeCode t) (typeLength t) ≡ true
@@ -38,14 +37,14 @@ unfolding wellFormed
 even-text t e = eqb-true (length t % 2) 0 (both (eqb (length t % 2) 0) (paired (surrogates t)) e .0)
 
 pub column-ok : {u f c l : ℕ} {o n : List ℕ} → u < 256 ^ 4 → f < 256 ^ 2 → isType c l ≡ true → length o ≡ collationSize c
-    → wellFormed n ≡ true → hasPair n ≡ false → units n ≤ 255 → ColumnOk u f c l o n
-column-ok {n = n} u f t o w h m = record {
+    → wellFormed n ≡ true → units n ≤ 255 → ColumnOk u f c l o n
+column-ok {n = n} u f t o w m = record {
   user< = u;
   flags< = f;
   type-is = t;
   collation-is = o;
-  name-is = name-whole n w h;
-  name< = omega (arith, name-units n w h);
+  name-is = omega (arith, units-half n, even-text n w);
+  name< = omega (arith, m);
 }
 
 pub done-ok : {s c n : ℕ} → s < 256 ^ 2 → c < 256 ^ 2 → n < 256 ^ 8 → DoneOk s c n

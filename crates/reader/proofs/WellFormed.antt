@@ -7,8 +7,9 @@ use mathlib.Core.List.{List, [], _∷_, _++_}
 use lib.Dec.{eqb}
 use lib.ListN.{length}
 use Rattle.packet.specs.Status.{hasBit}
+use Rattle.text.specs.Units.{units}
 use Rattle.token.specs.Types.{collationSize}
-use Rattle.token.specs.Tokens.{Token, metadata, column, row, cell, done, message, EncodedCell, integer, noInteger, bounded, long, noLong, nameCount}
+use Rattle.token.specs.Tokens.{Token, metadata, column, row, cell, done, message, EncodedCell, integer, noInteger, bounded, long, noLong}
 use Rattle.wire.specs.Even.{even}
 use Rattle.cells.specs.Cells.{isType}
 use Rattle.cells.proofs.Chunks.{ChunksOk}
@@ -19,14 +20,14 @@ pub record ColumnType : Type 0 where
   pub code : ℕ
   pub limit : ℕ
 
--- a column of a type that there is, whose name has as many units as its count says
+-- a column of a type that there is, whose name is whole units, at most 255 of them
 pub record ColumnOk (user flags code limit : ℕ) (collation name : List ℕ) : Type 0 where
   pub user< : user < 256 ^ 4
   pub flags< : flags < 256 ^ 2
   pub type-is : isType code limit ≡ true
   pub collation-is : length collation ≡ collationSize code
-  pub name-is : 2 * nameCount name ≡ length name
-  pub name< : nameCount name < 256
+  pub name-is : 2 * units name ≡ length name
+  pub name< : units name < 256
 
 -- a cell that goes with a column's type
 abbrev pub CellOk : ColumnType → EncodedCell → Type 0

@@ -13,7 +13,7 @@ use Rattle.wire.proofs.Cases.{by-test}
 use Rattle.wire.specs.Le.{leAt}
 use Rattle.text.specs.Units.{unitsOf}
 use Rattle.text.specs.Units.{units}
-use Rattle.text.specs.Surrogates.{surrogates, paired, wellFormed, hasPair}
+use Rattle.text.specs.Surrogates.{surrogates, paired, wellFormed}
 use Rattle.token.specs.declared.SqlDataType.{SqlDataType}
 use Rattle.token.specs.declared.SqlDataType.the-variants.{TinyInt}
 use Rattle.token.specs.declared.KnownDataType.{KnownDataType}
@@ -94,14 +94,14 @@ column-long : (p : List ℕ) → columnShaped p ≡ true → 6 ≤ length p
 unfolding columnShaped
 column-long p e = leb-true 6 (length p) (first-of-four (leb 6 (length p)) (even (length p)) (leb 1 (leAt 1 p)) (leb (leAt 1 p) 8) e)
 
-pub column-fits : (p : List ℕ) → columnShaped p ≡ true → wellFormed (drop 6 p) ≡ true → hasPair (drop 6 p) ≡ false → units (drop 6 p) ≤ 255
+pub column-fits : (p : List ℕ) → columnShaped p ≡ true → wellFormed (drop 6 p) ≡ true → units (drop 6 p) ≤ 255
     → ColumnOk 0 0 (columnType (leAt 1 p) .code) (columnType (leAt 1 p) .limit) (take (collationSize (columnType (leAt 1 p) .code)) (drop 1 p)) (drop 6 p)
-column-fits p s w h u =
+column-fits p s w u =
     let c : ℕ = columnType (leAt 1 p) .code in
     let long = column-long p s in
     let some = collation≤ c in
     let room : collationSize c ≤ length (drop 1 p) = omega (arith, length-drop 1 p) in
-    column-ok (omega arith) (omega arith) (sent-type (typeOf (leAt 1 p))) (length-take-le (collationSize c) (drop 1 p) room) w h u
+    column-ok (omega arith) (omega arith) (sent-type (typeOf (leAt 1 p))) (length-take-le (collationSize c) (drop 1 p) room) w u
 
 -- ---- messages
 

@@ -33,7 +33,7 @@ use Rattle.emission.proofs.Sizes.{size-told, size-row, size-cat}
 use Rattle.fit.specs.declared.Fit.the-variants.{Yes}
 use Rattle.fit.specs.Misfits.{typesIn, fitOf}
 use Rattle.fit.specs.Records.{cellsIn, beginMisfits, misfitsFrom, misfitsIn}
-use Rattle.fit.proofs.Inverts.{Pairless, Match, noCell, match-cell, match-chunk, match-over, match-end, suits, set-fits, row-fits, fits-set, fits-row, fits-other, fits-first, fits-yes}
+use Rattle.fit.proofs.Inverts.{Match, noCell, match-cell, match-chunk, match-over, match-end, suits, set-fits, row-fits, fits-set, fits-row, fits-other, fits-first, fits-yes}
 use Rattle.reader.proofs.WellFormed.{ColumnType, among, between, inRow, WF, WellFormed}
 use Rattle.reader.proofs.Sendable.{done-ok, metadata-then, column-then, row-then, cell-then, message-then, done-then, done-last}
 use Rattle.wire.specs.Octets.{Bytes}
@@ -68,14 +68,14 @@ named x (p ∷ ps) qs c e =
     let r = named x ps qs (c .2) (f .1) in
     ((short-name (drop 6 p) (no-test (longName (drop 6 p)) 15 (f .0)), r .0), r .1)
 
-columns-formed : (x : List ℕ) (ps : List (List ℕ)) (qs : List Piece) (cs : List ColumnType) → Columned ps → Pairless ps → Named ps
+columns-formed : (x : List ℕ) (ps : List (List ℕ)) (qs : List Piece) (cs : List ColumnType) → Columned ps → Named ps
     → WF (between (cs ++ typed (typesIn ps))) (tokensIn qs) → WF (among cs (length ps)) (tokensIn (columnsThen x ps qs))
 unfolding typesIn flatMap
-columns-formed x [] qs cs c l n w = rw append-nil at w
-columns-formed x (p ∷ ps) qs cs c l n w =
+columns-formed x [] qs cs c n w = rw append-nil at w
+columns-formed x (p ∷ ps) qs cs c n w =
     rw (column-there p (c .0))
-    (column-then (column-fits p (c .0) (c .1) (l .0) (n .0))
-    (columns-formed x ps qs (cs ++ (columnType (leAt 1 p) ∷ [])) (c .2) (l .1) (n .1) (rw append-snoc w)))
+    (column-then (column-fits p (c .0) (c .1) (n .0))
+    (columns-formed x ps qs (cs ++ (columnType (leAt 1 p) ∷ [])) (c .2) (n .1) (rw append-snoc w)))
 
 -- ---- where the records go on
 
@@ -114,7 +114,7 @@ begins set p rs rest b v m f e l =
       short = omega (arith, later (beginPieces p rs) (emitFrom 0 rs));
     } in
     metadata-then (s .1)
-    (columns-formed p (ahead 2 rs) (emitFrom 0 rs) [] (columned Columns rs v) (s .2) (n .0) (rest set 0 0 (typesIn (ahead 2 rs)) [] Columns go))
+    (columns-formed p (ahead 2 rs) (emitFrom 0 rs) [] (columned Columns rs v) (n .0) (rest set 0 0 (typesIn (ahead 2 rs)) [] Columns go))
 
 -- after a record that is no row, cell or chunk no cell follows
 outside : (st : Stage) (k : ℕ) (p : List ℕ) → eqb k 4 ≡ false → eqb k 5 ≡ false → eqb k 6 ≡ false

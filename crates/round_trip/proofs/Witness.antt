@@ -13,7 +13,7 @@ use Rattle.wire.specs.Le.{le, leAt}
 use Rattle.wire.specs.Be.{be}
 use Rattle.wire.specs.Fields.{flat}
 use Rattle.text.specs.Units.{unitsOf, units, total}
-use Rattle.text.specs.Surrogates.{surrogateOf, surrogates, paired, anyHigh, wellFormed, hasPair, charactersIn, characters}
+use Rattle.text.specs.Surrogates.{surrogateOf, surrogates, paired, wellFormed}
 use Rattle.packet.specs.Status.{hasBit}
 use Rattle.packet.specs.Header.{headerBytes}
 use Rattle.packet.specs.Reply.{replyHeader, packetOf}
@@ -26,14 +26,14 @@ use Rattle.token.specs.Types.{dataTypes, dataTypeIn, dataTypeOf, lengthWidth, c
 use Rattle.token.specs.Names.{nameFault}
 use Rattle.token.specs.Values.{columnValues, columnValueIn, columnValueOf}
 use Rattle.token.specs.Tokens.{Token, Value, metadata, column, row, cell, done, message, number, part, null, states}
-use Rattle.token.specs.Tokens.{signed, joined, nameCount, messageLength}
+use Rattle.token.specs.Tokens.{signed, joined, messageLength}
 use Rattle.script.specs.Runs.{ahead}
 use Rattle.script.specs.Sets.{every, cellsIn, rowsIn, upToSet, setsIn}
 use Rattle.emission.specs.Emission.{columnOf, cellOf, setPieces, setsPieces, emittedBy, pieces, emitted, bytesIn, replyOf}
 use Rattle.emission.specs.Refusal.{faultIn, refusalOf}
 use Rattle.result.specs.declared.Built.the-variants.{Written, Refused}
 use Rattle.result.specs.Built.{repliesOf, roomOf, roomAt, builtOf}
-use Rattle.fit.specs.Misfits.{cellFits, wrongCells, wrongInRow, columnFits, wrongColumns, typesIn}
+use Rattle.fit.specs.Misfits.{cellFits, wrongCells, wrongInRow, wrongColumns, typesIn}
 use Rattle.fit.specs.Misfits.{rowsMisfits, setMisfits, setsMisfits, misfits, fitOf}
 use Rattle.wire.specs.Octets.{Bytes}
 use Rattle.round_trip.specs.RoundTrip.{single, packetsLeft, Sent, Reads}
@@ -62,7 +62,7 @@ twoSets =
 abbrev pub allKinds : List ℕ
 allKinds =
     joined
-    -- 1: a set. 2: columns "a" to "j", each with five collation bytes, of types 1 to 8, and 1 and 6 again
+    -- 1: a set. 2: columns "a" to "i", each with five collation bytes, of types 1 to 8 and 1 again; one of type 6, "j" and a surrogate pair
     (be 6 0x00000000_0100
     ∷ be 14 0x08000000_0200_01_0904D00034_6100
     ∷ be 14 0x08000000_0200_02_0904D00034_6200
@@ -73,7 +73,7 @@ allKinds =
     ∷ be 14 0x08000000_0200_07_0904D00034_6700
     ∷ be 14 0x08000000_0200_08_0904D00034_6800
     ∷ be 14 0x08000000_0200_01_0904D00034_6900
-    ∷ be 14 0x08000000_0200_06_0904D00034_6A00
+    ∷ be 18 0x0C000000_0200_06_0904D00034_6A00_3DD800DE
     -- 7: a leading error 50000 of severity 16, "e". 3: an info 5701 of state 2, severity 10 and line 7, "m" of the server "s" and
     -- the procedure "p"
     ∷ be 13 0x07000000_0700_50C30000_10_6500
@@ -133,12 +133,12 @@ scripts-bytes : (allBytes twoSets ≡ true) × (allBytes allKinds ≡ true) × (
 unfolding le be
 scripts-bytes = (refl, refl, refl)
 
-scripts-sent : Sent single twoSets lent 67 × Sent single allKinds lent 341 × Sent single terminal lent 42
-unfolding flatMap be le leAt flat unitsOf units total surrogateOf surrogates paired anyHigh wellFormed hasPair charactersIn characters
+scripts-sent : Sent single twoSets lent 67 × Sent single allKinds lent 345 × Sent single terminal lent 42
+unfolding flatMap be le leAt flat unitsOf units total surrogateOf surrogates paired wellFormed
     replyHeader packetOf parse records cellStage stageAfter columnShaped infoShaped numberWidth cellShaped chunkShaped errorShaped shaped textsOf allWellFormed
-    faultOf verdictFrom verdictOf dataTypeOf dataTypes dataTypeIn lengthWidth collationSize columnValueOf columnValues columnValueIn nameFault nameCount messageLength ahead every cellsIn rowsIn upToSet
+    faultOf verdictFrom verdictOf dataTypeOf dataTypes dataTypeIn lengthWidth collationSize columnValueOf columnValues columnValueIn nameFault messageLength ahead every cellsIn rowsIn upToSet
     setsIn columnOf cellOf setPieces setsPieces emittedBy pieces bytesIn replyOf faultIn refusalOf roomOf builtOf cellFits wrongCells wrongInRow
-    columnFits wrongColumns typesIn rowsMisfits setMisfits setsMisfits misfits fitOf
+    wrongColumns typesIn rowsMisfits setMisfits setsMisfits misfits fitOf
 scripts-sent = (
   record { bytes = bytes-are twoSets (scripts-bytes .0); built = refl; fits = refl },
   record { bytes = bytes-are allKinds (scripts-bytes .1); built = refl; fits = refl },
@@ -148,7 +148,7 @@ scripts-sent = (
 pub two-sets-sent : Sent single twoSets lent 67
 two-sets-sent = scripts-sent .0
 
-pub all-kinds-sent : Sent single allKinds lent 341
+pub all-kinds-sent : Sent single allKinds lent 345
 all-kinds-sent = scripts-sent .1
 
 pub terminal-sent : Sent single terminal lent 42
@@ -164,9 +164,9 @@ scripts-room :
     (roomOf twoSets ≡ Written 67) × (roomAt 512 twoSets ≡ Written 67) × (roomAt 511 twoSets ≡ Refused 32)
     × (roomOf longSet ≡ Written 513) × (roomAt 512 longSet ≡ Written 521) × (roomAt 513 longSet ≡ Written 513)
     × (roomOf [] ≡ Refused 12) × (roomAt 512 [] ≡ Refused 12) × (roomAt 511 [] ≡ Refused 32)
-unfolding flatMap be le leAt flat unitsOf units total surrogateOf surrogates paired anyHigh wellFormed hasPair charactersIn characters
+unfolding flatMap be le leAt flat unitsOf units total surrogateOf surrogates paired wellFormed
     replyHeader packetOf headerBytes partBytes cutFrom packetsOf parse records cellStage stageAfter columnShaped numberWidth cellShaped shaped textsOf allWellFormed
-    faultOf verdictFrom verdictOf dataTypeOf dataTypes dataTypeIn lengthWidth collationSize columnValueOf columnValues columnValueIn nameFault nameCount ahead every cellsIn rowsIn upToSet
+    faultOf verdictFrom verdictOf dataTypeOf dataTypes dataTypeIn lengthWidth collationSize columnValueOf columnValues columnValueIn nameFault ahead every cellsIn rowsIn upToSet
     setsIn columnOf cellOf setPieces setsPieces emittedBy pieces bytesIn replyOf faultIn refusalOf repliesOf roomOf roomAt
 scripts-room = (refl, refl, refl, refl, refl, refl, refl, refl, refl)
 
@@ -204,7 +204,7 @@ allKindsTokens =
     ∷ column 0 0 0xA7 0xFFFF latin (be 2 0x6700)
     ∷ column 0 0 0xA5 0xFFFF [] (be 2 0x6800)
     ∷ column 0 0 0x26 1 [] (be 2 0x6900)
-    ∷ column 0 0 0xE7 0xFFFF latin (be 2 0x6A00)
+    ∷ column 0 0 0xE7 0xFFFF latin (be 6 0x6A00_3DD800DE)
     ∷ message 0xAB 5701 2 10 (be 2 0x6D00) (be 2 0x7300) (be 2 0x7000) 7
     -- ROW and ten cells; `negsuc n` is -1 - n
     ∷ row
@@ -233,13 +233,13 @@ all-kinds-emitted = refl
 reads-as : (packets : List ℕ) (ts us : List (Token Value)) → ts ≡ us → Reads packets ts → Reads packets us
 reads-as packets ts us e r = rw e at r
 
-pub all-kinds-reads : Reads (packetsLeft single allKinds lent 341) allKindsTokens
+pub all-kinds-reads : Reads (packetsLeft single allKinds lent 345) allKindsTokens
 all-kinds-reads =
-    let is = round-trip single allKinds lent 341 all-kinds-sent in
-    reads-as (packetsLeft single allKinds lent 341) (map states (emitted allKinds)) allKindsTokens all-kinds-emitted is
+    let is = round-trip single allKinds lent 345 all-kinds-sent in
+    reads-as (packetsLeft single allKinds lent 345) (map states (emitted allKinds)) allKindsTokens all-kinds-emitted is
 
-pub all-kinds-only : (ts : List (Token Value)) → Reads (packetsLeft single allKinds lent 341) ts → ts ≡ allKindsTokens
-all-kinds-only ts r = read-is single allKinds lent 341 all-kinds-sent ts r ∙ all-kinds-emitted
+pub all-kinds-only : (ts : List (Token Value)) → Reads (packetsLeft single allKinds lent 345) ts → ts ≡ allKindsTokens
+all-kinds-only ts r = read-is single allKinds lent 345 all-kinds-sent ts r ∙ all-kinds-emitted
 
 -- its values, by its records and in these tokens
 abbrev pub allKindsValues : List (List (List Value))

@@ -8,7 +8,6 @@ use lib.ListN.{length}
 use lib.Dec.{eqb, ltb}
 use Rattle.wire.specs.Fields.{Field, word, raw, flat}
 use Rattle.text.specs.Units.{units}
-use Rattle.text.specs.Surrogates.{characters}
 use Rattle.token.specs.Types.{lengthWidth}
 
 -- a token whose cells are of the type C: COLMETADATA and each of its columns, ROW and each of its cells, DONE, and
@@ -75,10 +74,6 @@ putCell (bounded x) fs = word 2 (length x) ∷ raw x ∷ fs
 putCell (long cs) fs = word 8 (length (joined cs)) ∷ putChunks cs fs
 putCell noLong fs = word 8 0xFFFFFFFFFFFFFFFF ∷ fs
 
--- the count before a column's name: characters, as the Rust writes it, where MS-TDS has units
-unfoldable pub nameCount : List ℕ → ℕ
-nameCount name = characters name
-
 -- the length of a message: what follows the length itself
 unfoldable pub messageLength : List ℕ → List ℕ → List ℕ → ℕ
 messageLength text server procedure = 14 + length text + length server + length procedure
@@ -100,7 +95,7 @@ typeFields u f code limit fs = word 4 u ∷ word 2 f ∷ word 1 code ∷ word (l
 
 abbrev pub put : Token EncodedCell → List Field → List Field
 put (metadata n) fs = word 1 0x81 ∷ word 2 n ∷ fs
-put (column u f c l o n) fs = typeFields u f c l (raw o ∷ word 1 (nameCount n) ∷ raw n ∷ fs)
+put (column u f c l o n) fs = typeFields u f c l (raw o ∷ bVarchar n fs)
 put row fs = word 1 0xD1 ∷ fs
 put (cell v) fs = putCell v fs
 put (done s c n) fs = word 1 0xFD ∷ word 2 s ∷ word 2 c ∷ word 8 n ∷ fs

@@ -279,15 +279,14 @@ fn put_type_info(buf: &mut [u8], at: usize, t: SqlDataType) -> usize
     wire::put_u16_le(buf, c, limit)
 }
 
-// A column: its type, its collation where the type has one, and its name.
+// A column: its type, its collation where the type has one, and its name after its count of units.
 pub fn put_column(buf: &mut [u8], at: usize, t: SqlDataType, collation: &[u8], name: &[u8]) -> usize
     ensures { λ _. ⌜ now (buf .exit) ≡ overwrite (now (buf .entry)) at (tokenBytes (column 0 0 (typeCode t) (typeLength t) (now (collation .entry)) (now (name .entry)))) ⌝ }
     ensures { λ r. ⌜ PlaceAfter (now (buf .entry)) at (tokenBytes (column 0 0 (typeCode t) (typeLength t) (now (collation .entry)) (now (name .entry)))) r ⌝ }
 {
     let a = put_type_info(buf, at, t);
     let b = wire::put_slice(buf, a, collation);
-    let c = wire::put_u8(buf, b, (text::characters(name) % 256) as u8);
-    wire::put_slice(buf, c, name)
+    put_b_varchar(buf, b, name)
 }
 
 // A cell of an integer, by the number of its bytes.

@@ -2,7 +2,7 @@
 //! without the library; of labels, held against the second reader and writer.
 
 use crate::answers::Part;
-use crate::answers::counted::places;
+use crate::answers::counted::{Places, places};
 use crate::answers::labels;
 use crate::answers::reply::{accepted, packet, reply, rust_packet};
 use crate::answers::request::{batch, descriptor, fedauth, transaction};
@@ -163,9 +163,25 @@ fn readings_of_texts_and_names() {
     assert_eq!(reply_of(&odd), Err(SHAPE));
     assert_eq!(reply_of(&[set(&[]), row(), cell(5, &[0x3D, 0xD8, 0])]), Err(SHAPE));
     assert!(reply_of(&[set(&[]), row(), cell(6, &[]), chunk(high)]).is_ok());
-    let pairs = |count| column(1, COLLATION, &[high, low].concat().repeat(count));
-    assert_eq!(reply_of(&[set(&[]), pairs(128)]), Err(LONG_NAME));
-    assert_eq!(reply_of(&[set(&[]), pairs(127)]).unwrap()[19], 127);
+}
+
+/// Document 02, 2026-08: the count before a column's name, byte 19 of a reply whose first column is an
+/// integer. The Rust's is 1 and 127 where a name is one pair and 127.
+#[test]
+fn a_name_is_counted_in_units() {
+    let pair = &[0x3D, 0xD8, 0x00, 0xDE][..];
+    let of = |name: &[u8]| [set(&[]), column(1, COLLATION, name)];
+    let count = |name: &[u8]| reply_of(&of(name)).map(|packet| packet[19]);
+    let rust = |name: &[u8]| rust_packet(&accepted(&written(&of(name))).unwrap())[19];
+    assert_eq!((count(b"n\0"), rust(b"n\0")), (Ok(1), 1));
+    assert_eq!((count(pair), rust(pair)), (Ok(2), 1));
+    assert_eq!((count(&pair.repeat(127)), rust(&pair.repeat(127))), (Ok(254), 127));
+    let unit_last = [&pair.repeat(127)[..], b"n\0"].concat();
+    assert_eq!((count(&unit_last), rust(&unit_last)), (Ok(255), 128));
+    let pair_last = [&b"n\0".repeat(253)[..], pair].concat();
+    assert_eq!((count(&pair_last), rust(&pair_last)), (Ok(255), 254));
+    assert_eq!(count(&pair.repeat(128)), Err(LONG_NAME));
+    assert_eq!(count(&pair[..2]), Err(RECORD_NOT_UTF16));
 }
 
 #[test]
@@ -192,7 +208,12 @@ fn misfits_by_set_row_and_column() {
     let rows = [set(&[]), int.clone(), int.clone(), row(), cell(10, &[]), row(), cell(7, &[])];
     assert_eq!(of(&rows), [[3, 0, 0, 1], [3, 0, 1, 0], [3, 0, 1, 1]]);
     let pair = column(5, COLLATION, &utf16::text_bytes("\u{1F600}"));
-    assert_eq!(of(&[set(&[]), set(&[]), int, pair]), [[2, 1, 0, 1]]);
+    assert!(of(&[set(&[]), int.clone(), pair]).is_empty());
+    for count in [128, 129, 130, 300] {
+        let columns = vec![int.clone(); count];
+        let script = [&[set(&[]), set(&[])], &columns[..]].concat();
+        assert_eq!(of(&script), [[2, 1, 0, 128]][..usize::from(count > 128)]);
+    }
 }
 
 #[test]
@@ -221,10 +242,8 @@ fn the_first_misfit_whatever_the_order_of_the_list() {
 #[test]
 fn faults_make_every_pair_of_kinds_in_one_set_and_in_two() {
     let mut met = BTreeSet::new();
-    let mut most = 0;
     for faults in misfit::choices() {
         let found = misfits(&accepted(&written(&misfit::with(&faults))).unwrap());
-        most = most.max(found.len());
         let Some([kind, set, row, column]) = first(&found) else {
             continue;
         };
@@ -233,11 +252,10 @@ fn faults_make_every_pair_of_kinds_in_one_set_and_in_two() {
         }
     }
     let in_two_sets = (1..=3).flat_map(|a| (1..=3).map(move |b| (a, b, false, false)));
-    let in_one = [(1, 2, true), (1, 3, true), (2, 2, true), (2, 3, true), (3, 3, true)];
+    let in_one = [(1, 2, true), (1, 3, true), (2, 3, true), (3, 3, true)];
     let in_other_rows = [(1, 3, false), (2, 3, false), (3, 3, false)];
     let in_one = in_one.iter().chain(&in_other_rows).map(|(a, b, row)| (*a, *b, true, *row));
     assert_eq!(met, in_two_sets.chain(in_one).collect());
-    assert!(most > 300);
 }
 
 #[test]
@@ -293,7 +311,8 @@ fn status_words_are_told_from_bytes_that_look_like_them() {
     assert_eq!(ours.len(), rust.len());
     assert_eq!(differ, [first, last]);
     assert_eq!((rust[first], ours[first], rust[last], ours[last]), (0x01, 0x11, 0x00, 0x10));
-    assert_eq!(places(&script, &rust), [(first, true), (last, false)]);
+    let statuses = vec![(first, true), (last, false)];
+    assert_eq!(places(&script, &rust), Places { statuses, names: Vec::new() });
 }
 
 #[test]

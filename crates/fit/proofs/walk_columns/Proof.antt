@@ -1,10 +1,10 @@
--- `fit::walk_columns` meets its contract. The loop's invariant: what the columns from `at` on have wrong is what the set's columns
--- have, their types are those put down and those still to come, and the records passed have no misfit of their own. Assumes nothing.
-use Rattle.fit.proofs.ColumnTurns.{Left, columns-start, columns-cut, columns-end, columns-other, columns-ended, columns-wrong, columns-next, columns-room}
+-- `fit::walk_columns` meets its contract. The loop's invariant: the types of the set's columns are those put down and those still to
+-- come, and the records passed have no misfit of their own. Assumes nothing.
+use Rattle.fit.proofs.ColumnTurns.{Left, columns-start, columns-cut, columns-end, columns-other, columns-ended, columns-many, columns-next}
 use Rattle.script.proofs.Stops.{stops}
 use Rattle.fit.proofs.Skip.{kind-is}
 use Rattle.script.proofs.Walk.{lies}
-use borrow.Author.Tests.{ne-eqb, not-true, not-false}
+use borrow.Author.Tests.{ne-eqb}
 use Rattle.script.specs.Records.{recordAt}
 use Rattle.script.specs.declared.Found.the-variants.{Record}
 use Prim.Native.Nat.{_-_}
@@ -42,38 +42,35 @@ enum-known-kind c = search needs
 returns-2 : tie.Need-returns-2 Inv-loop μ-loop
 returns-2 c = columns-ended _ _ _ _ _ (c .before .before .before .before .before .loop .inv) (columns-other _ _ (found (c .before .before)) (ne-eqb _ _ (c .if1 .taken)))
 
-add-next : tie.Need-add-next Inv-loop μ-loop
-add-next c = omega (arith, lies _ _ (found (c .before .before)))
-
-sub-column : tie.Need-sub-column Inv-loop μ-loop
-sub-column c = search needs
-
-part-column-start : tie.Need-part-column-start Inv-loop μ-loop
-part-column-start c = omega (arith, lies _ _ (found (c .before .before)))
-
-part-column-end : tie.Need-part-column-end Inv-loop μ-loop
-part-column-end c = omega (arith, lies _ _ (found (c .before .before)))
-
-column-fits-requires : tie.Need-column-fits-requires Inv-loop μ-loop
-column-fits-requires c κs = search needs
-
 returns-3 : tie.Need-returns-3 Inv-loop μ-loop
-returns-3 c = columns-wrong _ _ _ _ _ (c .before .before .before .before .before .before .before .before .loop .inv) (kind-is (found (c .before .before .before .before .before)) (c .before .before .before .if1 .left)) (c .before .column-fits .ensures) (not-true _ (c .if2 .taken))
+returns-3 c = columns-many _ _ _ _ _ (c .before .before .before .before .before .before .loop .inv) (kind-is (found (c .before .before .before)) (c .before .if1 .left)) (omega (arith, c .if2 .taken))
+
+add-next : tie.Need-add-next Inv-loop μ-loop
+add-next c = omega (arith, lies _ _ (found (c .before .before .before)))
+
+sub-get-u8 : tie.Need-sub-get-u8 Inv-loop μ-loop
+sub-get-u8 c = search needs
+
+part-get-u8-start : tie.Need-part-get-u8-start Inv-loop μ-loop
+part-get-u8-start c = omega (arith, lies _ _ (found (c .before .before .before)))
+
+part-get-u8-end : tie.Need-part-get-u8-end Inv-loop μ-loop
+part-get-u8-end c = omega (arith, lies _ _ (found (c .before .before .before)))
 
 get-u8-requires : tie.Need-get-u8-requires Inv-loop μ-loop
 get-u8-requires c κs = search needs
 
 element-write-types : tie.Need-element-write-types Inv-loop μ-loop
-element-write-types c = columns-room _ _ _ _ _ (c .before .before .before .before .before .before .before .before .before .loop .inv) (kind-is (found (c .before .before .before .before .before .before)) (c .before .before .before .before .if1 .left)) (c .before .before .column-fits .ensures) (not-false _ (c .before .if2 .left))
+element-write-types c = omega (arith, c .before .before .if2 .left)
 
 add-count : tie.Need-add-count Inv-loop μ-loop
-add-count c = omega (arith, columns-room _ _ _ _ _ (c .before .before .before .before .before .before .before .before .before .loop .inv) (kind-is (found (c .before .before .before .before .before .before)) (c .before .before .before .before .if1 .left)) (c .before .before .column-fits .ensures) (not-false _ (c .before .if2 .left)))
+add-count c = omega (arith, c .before .before .if2 .left)
 
 loop-less : tie.Need-loop-less Inv-loop μ-loop
-loop-less c = omega (arith, lies _ _ (found (c .before .before .before .before .before .before)))
+loop-less c = omega (arith, lies _ _ (found (c .before .before .before .before .before)))
 
 loop-again : tie.Need-loop-again Inv-loop μ-loop
-loop-again c = columns-next _ _ _ _ _ (c .before .before .before .before .before .before .before .before .before .loop .inv) (kind-is (found (c .before .before .before .before .before .before)) (c .before .before .before .before .if1 .left)) (c .before .before .column-fits .ensures) (not-false _ (c .before .if2 .left)) (c .get-u8 .ensures)
+loop-again c = columns-next _ _ _ _ _ (c .before .before .before .before .before .before .before .before .loop .inv) (kind-is (found (c .before .before .before .before .before)) (c .before .before .before .if1 .left)) (omega (arith, c .before .before .if2 .left)) (c .get-u8 .ensures)
 
 pub walk-columns-spec : {M : Type 1} → statement M
 walk-columns-spec =
@@ -86,12 +83,11 @@ walk-columns-spec =
     returns
     enum-known-kind
     returns-2
-    add-next
-    sub-column
-    part-column-start
-    part-column-end
-    column-fits-requires
     returns-3
+    add-next
+    sub-get-u8
+    part-get-u8-start
+    part-get-u8-end
     get-u8-requires
     element-write-types
     add-count

@@ -13,8 +13,8 @@ returns c = let a = c .before .before .before .args in set-classified (now (a .s
 walk-columns-requires : tie.Need-walk-columns-requires
 walk-columns-requires c κs = search needs
 
-enum-known-column : tie.Need-enum-known-column
-enum-known-column c = search needs
+enum-told : tie.Need-enum-told
+enum-told c = search needs
 
 enum-known-count : tie.Need-enum-known-count
 enum-known-count c = search needs
@@ -29,7 +29,7 @@ walk-rows-requires : tie.Need-walk-rows-requires
 walk-rows-requires c κs = search needs
 
 returns-2 : tie.Need-returns-2
-returns-2 c = let a = c .before .before .before .before .before .before .before .before .args in set-wrong (now (a .s)) (a .set) (now (a .classification)) (a .from) (c .before .before .before .walk-columns .last .1 .1 .0) (c .before .before .before .before .before .if1 .left) (c .before .before .before .walk-columns .ensures) (c .before .column .given .1)
+returns-2 c = let a = c .before .before .before .before .before .before .before .args in set-wrong (now (a .s)) (a .set) (now (a .classification)) (a .from) (c .before .before .walk-columns .last .1 .1 .0) (c .before .before .before .before .if1 .left) (c .before .before .walk-columns .ensures) (c .enum-told .given .1)
 
 returns-3 : tie.Need-returns-3
 returns-3 c = let a = c .before .before .before .before .before .before .before .before .before .before .args in set-rows (now (a .s)) (a .set) (now (a .classification)) (a .from) (c .before .before .before .before .before .walk-columns .last .1 .1 .0) (c .before .before .before .before .before .before .before .if1 .left) (c .before .before .before .before .before .walk-columns .ensures) (c .walk-rows .result) (c .before .before .before .count .given .1) (c .walk-rows .ensures)
@@ -40,7 +40,7 @@ walk-set-spec =
     (tie.spec
     returns
     walk-columns-requires
-    enum-known-column
+    enum-told
     enum-known-count
     array-share-prefix-types
     slice-aggregate-walk-rows

@@ -1,5 +1,6 @@
-//! The status words in which a reply parts from the Rust's (document 02, 2026-03): those of the
-//! DONEs that end a set get the bit by which MS-TDS calls their row count valid.
+//! The bytes in which a reply parts from the Rust's, where MS-TDS counts otherwise: the DONEs that end a set
+//! get the bit by which it calls their row count valid (document 02, 2026-03), and a column's name that has
+//! a surrogate pair is counted in units, not in characters (2026-08).
 //!
 //! They are found by walking over the Rust's own tokens, from the first to the last: the decoded
 //! script says which token comes next, the bytes how long it is. No byte is searched for.
@@ -25,42 +26,58 @@ const NO_TOTAL: u64 = u64::MAX;
 const COUNT: u8 = 0x10;
 const MORE: u8 = 0x01;
 
+/// Where a packet of the Rust's is changed.
+#[derive(Debug, Default, PartialEq)]
+pub struct Places {
+    /// The status of each set's DONE, and whether a set follows.
+    pub statuses: Vec<(usize, bool)>,
+    /// The count before each name that has a pair, and the name's units.
+    pub names: Vec<(usize, u8)>,
+}
+
 /// The Rust's packet of a script that is not refused, with that bit set in the status of each set's
-/// DONE and nowhere else. Each such count must be the number of the set's rows.
+/// DONE, with units before each name that has a pair, and with no other change. Each row count must be
+/// the number of the set's rows, and the Rust's count of each name that of its characters.
 pub fn counted(script: &Script, mut packet: Vec<u8>) -> Vec<u8> {
-    for (place, follows) in places(script, &packet) {
+    let Places { statuses, names } = places(script, &packet);
+    for (place, follows) in statuses {
         assert_eq!(packet[place..place + 2], [if follows { MORE } else { 0 }, 0]);
         packet[place] |= COUNT;
+    }
+    for (place, units) in names {
+        packet[place] = units;
     }
     packet
 }
 
-/// Where the status of each set's DONE stands, and whether a set follows.
-pub fn places(script: &Script, packet: &[u8]) -> Vec<(usize, bool)> {
+/// The places that are changed.
+pub fn places(script: &Script, packet: &[u8]) -> Places {
+    let mut found = Places::default();
     if script.is_terminal() {
-        return Vec::new();
+        return found;
     }
-    let mut walk = Walk { bytes: packet, at: HEADER };
+    let mut walk = Walk { bytes: packet, at: HEADER, names: Vec::new() };
     if script.sets[0].leading.is_some() {
         walk.message(ERROR);
         walk.done(0);
     }
     let last = script.sets.len() - 1;
-    let mut found = Vec::new();
     for (i, set) in script.sets.iter().enumerate() {
         walk.set(set);
         if i == last {
             script.trailing.iter().for_each(|_| walk.message(INFO));
         }
-        found.push((walk.done(set.rows.len()), i != last));
+        found.statuses.push((walk.done(set.rows.len()), i != last));
     }
     assert_eq!(walk.at, packet.len(), "the last DONE ends the packet");
+    found.names = walk.names;
     found
 }
 
 struct Walk<'a> {
     bytes: &'a [u8],
     at: usize,
+    names: Vec<(usize, u8)>,
 }
 
 impl Walk<'_> {
@@ -109,7 +126,7 @@ impl Walk<'_> {
     }
 
     /// A column: user type, flags, type and its length, collation, name. The Rust counts the name in
-    /// characters, so the units come from the script.
+    /// characters; its units come from the script.
     fn column(&mut self, column: &Column) {
         self.at += 6;
         self.at += match self.number(1) as u8 {
@@ -117,7 +134,13 @@ impl Walk<'_> {
             VARBINARY => 2,
             _ => 2 + COLLATION,
         };
-        self.at += 1 + 2 * column.name.encode_utf16().count();
+        let (place, units) = (self.at, column.name.encode_utf16().count());
+        let characters = column.name.chars().count();
+        assert_eq!(self.number(1), characters as u64, "the count of the name at {place}");
+        if units != characters {
+            self.names.push((place, units as u8));
+        }
+        self.at += 2 * units;
     }
 
     fn cell(&mut self, cell: &Cell) {

@@ -1,4 +1,5 @@
-//! The reply to a script: decoded here, written by the Rust but for the status of each set's DONE.
+//! The reply to a script: decoded here, written by the Rust but for the status of each set's DONE and the
+//! count of each name that has a surrogate pair.
 
 use super::counted::counted;
 use crate::protocol;

@@ -35,6 +35,7 @@ pub fn compare(size: Size) -> Vec<Check> {
     results.chunk_cuts();
     results.infos();
     results.names_and_chunks();
+    results.names_with_pairs();
     results.columns(&mut random);
     results.several_misfits();
     results.several_sets();
@@ -291,6 +292,33 @@ impl Results {
                 }
             }
         }
+    }
+
+    /// Column names of up to five units, each a letter or half a pair; and of 253 to 256 units, of which any
+    /// number are pairs at the start or at the end.
+    fn names_with_pairs(&mut self) {
+        let units = [0x6E, 0xD83D, 0xDE00];
+        for length in 0..=5u32 {
+            for choice in 0..units.len().pow(length) {
+                let unit = |place| units[choice / units.len().pow(place) % units.len()];
+                self.named(&utf16::bytes(&(0..length).map(unit).collect::<Vec<u16>>()));
+            }
+        }
+        let pair = utf16::bytes(&units[1..]);
+        for length in 253..=256 {
+            for count in 0..=length / 2 {
+                let (letters, pairs) = (b"n\0".repeat(length - 2 * count), pair.repeat(count));
+                self.named(&[&letters[..], &pairs].concat());
+                self.named(&[&pairs[..], &letters].concat());
+            }
+        }
+    }
+
+    /// A row of two columns, the first of this name.
+    fn named(&mut self, name: &[u8]) {
+        let mut script = vec![set(&[]), column(3, COLLATION, name), column(5, COLLATION, b"t\0")];
+        script.extend([row(), cell(3, &[7, 0, 0, 0]), cell(5, b"x\0")]);
+        self.records(&script);
     }
 
     /// One, two and three faults of every kind at every place of a script of two sets.
@@ -594,9 +622,10 @@ fn goes_on(script: &[Record]) -> bool {
 }
 
 /// Ten small scripts that hold every kind between them.
-fn small_scripts() -> [Vec<Record>; 10] {
+fn small_scripts() -> [Vec<Record>; 11] {
     [
         vec![set(&[])],
+        vec![set(&[]), column(3, COLLATION, &utf16::text_bytes("\u{1F600}")), row(), cell(10, &[])],
         vec![set(&[0xA3]), set(&[])],
         vec![set(&[]), column(3, COLLATION, b"n\0"), row(), cell(3, &[7, 0, 0, 0])],
         vec![set(&[]), column(5, COLLATION, &[]), row(), cell(5, b"a\0"), row(), cell(5, &[])],

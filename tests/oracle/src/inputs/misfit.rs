@@ -10,7 +10,8 @@ const ROWS: usize = 2;
 const TYPES: [u8; 3] = [3, 5, 6];
 const TEXT: usize = 1;
 
-/// A fault: what is wrong, and where. At a place that is not there it changes nothing.
+/// A fault: what is wrong, and where; and a name with a pair, which is none. At a place that is not there it changes
+/// nothing.
 #[derive(Clone, Copy, Debug)]
 pub enum Fault {
     /// So many columns, and in each row as many cells: 129 and more are too many.
@@ -21,7 +22,7 @@ pub enum Fault {
     Classification {
         set: usize,
     },
-    /// A surrogate pair in a column's name.
+    /// A surrogate pair in a column's name: no fault since request 2026-08.
     Pair {
         set: usize,
         column: usize,
@@ -54,7 +55,7 @@ pub enum Fault {
 pub fn faults() -> Vec<Fault> {
     let mut faults = Vec::new();
     for set in 0..SETS {
-        let counts = [0, 128, 129, 300].into_iter();
+        let counts = [0, 128, 129, 130, 300].into_iter();
         faults.extend(counts.map(|count| Fault::Columns { set, count }));
     }
     for set in 0..SETS {

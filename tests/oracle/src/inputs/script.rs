@@ -82,14 +82,7 @@ fn random_name(random: &mut Random, shape: Shape) -> Vec<u8> {
         let count = random.within(250, 260);
         return utf16::bytes(&utf16::random_text(random, count));
     }
-    let name = utf16::random_text_bytes(random, shape.text);
-    if shape.fits { without_pairs(&name) } else { name }
-}
-
-fn without_pairs(text: &[u8]) -> Vec<u8> {
-    let units: Vec<u16> =
-        utf16::units(text).into_iter().filter(|unit| !(0xD800..0xE000).contains(unit)).collect();
-    utf16::bytes(&units)
+    utf16::random_text_bytes(random, shape.text)
 }
 
 fn random_info(random: &mut Random, shape: Shape, kind: u16) -> Record {

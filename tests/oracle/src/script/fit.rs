@@ -3,7 +3,7 @@
 use super::{Cell, Column, Script, Set};
 use crate::utf16;
 
-/// The most columns of a set that fits.
+/// The most columns of a set that fits. Of more than these, the one after them is the misfit.
 const MOST_COLUMNS: usize = 128;
 /// The most bytes of a text of value 5 that fits.
 const LONGEST_TEXT: usize = 8_000;
@@ -34,10 +34,8 @@ fn set_misfits(number: u64, set: &Set) -> Vec<Misfit> {
     if !set.classification.is_empty() {
         found.push([CLASSIFICATION, number, 0, 0]);
     }
-    for (place, column) in set.columns.iter().enumerate() {
-        if place >= MOST_COLUMNS || has_pair(&column.name) {
-            found.push([COLUMN, number, 0, place as u64]);
-        }
+    if set.columns.len() > MOST_COLUMNS {
+        found.push([COLUMN, number, 0, MOST_COLUMNS as u64]);
     }
     for (row, cells) in (0u64..).zip(&set.rows) {
         found.extend(row_misfits(&set.columns, cells).map(|cell| [CELL, number, row, cell as u64]));
@@ -68,8 +66,4 @@ fn goes_with(cell: &Cell, type_byte: u8) -> bool {
         Cell::VarBinaryMax(_) => type_byte == 8,
         Cell::Null => (1..=4).contains(&type_byte),
     }
-}
-
-fn has_pair(name: &str) -> bool {
-    name.chars().any(|character| character.len_utf16() == 2)
 }

@@ -178,15 +178,19 @@ fn orders() -> Vec<Vec<Record>> {
 
 fn texts() -> Vec<Vec<Record>> {
     let (high, low) = (&[0x3D, 0xD8][..], &[0x00, 0xDE][..]);
-    let pairs = |count| column(5, COLLATION, &[high, low].concat().repeat(count));
+    let pair = [high, low].concat();
+    let pairs = |count| column(5, COLLATION, &pair.repeat(count));
+    let named = |parts: [&[u8]; 2]| vec![set(&[]), column(3, COLLATION, &parts.concat())];
     vec![
         vec![set(&[0xA3, 0])],
         vec![set(&[]), info(INFO, high, low, &[])],
         vec![set(&[]), row(), cell(6, &[]), chunk(&[1])],
         vec![set(&[]), row(), cell(5, &[0x3D, 0xD8, 0])],
         vec![set(&[]), row(), cell(6, &[]), chunk(high)],
-        vec![set(&[]), pairs(1)],
+        vec![set(&[]), pairs(1), row(), cell(5, b"x\0")],
         vec![set(&[]), pairs(127)],
+        named([&b"n\0".repeat(253), &pair]),
+        named([&pair.repeat(127), b"n\0"]),
         vec![set(&[]), pairs(128)],
         vec![set(&[]), column(2, COLLATION, b"n\0"), row(), cell(2, &[0, 0x80])],
         vec![set(&[]), column(5, COLLATION, b"n\0"), row(), cell(5, &b"x\0".repeat(4_000))],
@@ -214,6 +218,8 @@ fn borders() -> Vec<Vec<Record>> {
         one(info(TRAILING, &[], &text(256), &[])),
         columns(128),
         columns(129),
+        columns(130),
+        columns(300),
         binary(65_535 - besides),
         binary(65_536 - besides),
     ]
