@@ -1,8 +1,8 @@
 """What other programs make of a column's name that is counted in characters, as the Rust counts it: the evidence for
 request 2026-08, by which it is counted in units.
 
-Two scripts have a first column whose name is one surrogate pair, and two. Their replies are read by pytds and tshark, and in
-whole conversations of two batches by pymssql, tsql and pytds. As they are sent, each program must tell all that the
+Two scripts have a first column whose name is one surrogate pair, and two. Their replies are read by pytds and tshark, and
+in whole conversations of two batches by pymssql, tsql and pytds. As they are sent, each program must tell all that the
 script says; with the count in characters, each must lose its place. What each tells stands in characters.txt, which
 `tests/peers/run` compares with what it finds, and `tests/peers/run --renew` writes.
 """
@@ -27,29 +27,34 @@ WHOLE = "all that the script says"
 
 
 def found(reply):
-    """Of each name and count a heading, and of each program what it tells, with whether it is what it should be: whole with the
-    count in units, lost with the count in characters. `reply` makes a script's reply."""
+    """The lines of characters.txt, each with whether it is as it must be. `reply` makes a script's reply."""
     for name in characters_unit.NAMES:
-        made = scripts.named_script([name, SECOND])
-        sent = reply(made[0])
-        ways = (sent, unit.TOOL, True), (characters_unit.in_characters(sent), characters_unit.__file__, False)
-        for count, (held, tool, whole) in zip(characters_unit.counts(name), ways, strict=True):
-            told = [*of_packet(held, made[1]), *of_conversations(tool, *made)]
-            yield f"{name.decode('utf-16-le')} with count {count:02X}: {held.hex().upper()}", True
-            for program, expected, said in told:
-                yield line(program, expected, said), (expected == said) == whole
+        script, tokens = scripts.named_script([name, SECOND])
+        units, characters = characters_unit.counts(name)
+        sent = reply(script)
+        told = [*of_packet(sent, tokens), *of_conversations(unit.TOOL, script, tokens)]
+        yield from lines(name, units, sent, told, True)
+        changed = characters_unit.in_characters(sent)
+        told = [*of_packet(changed, tokens), *of_conversations(characters_unit.__file__, script, tokens)]
+        yield from lines(name, characters, changed, told, False)
 
 
-def line(program, expected, said):
-    return f"  {program}: {WHOLE if expected == said else f'loses its place, {said}'}"
+def lines(name, count, reply, told, whole):
+    """A heading, and what each program told of a reply: all of it where it must be `whole`, and else not."""
+    yield f"{name.decode('utf-16-le')} with count {count:02X}: {reply.hex().upper()}", True
+    for program, expected, said in told:
+        words = WHOLE if expected == said else f"loses its place, {said}"
+        yield f"  {program}: {words}", (expected == said) == whole
 
 
 def of_packet(reply, tokens):
+    """Of each program that reads a packet: its name, what it should tell and what it told."""
     yield "pytds, packet", list(by_pytds.expected(tokens)), tried(by_pytds.tokens, reply)
     yield "tshark, packet", tokens, by_tshark.tokens([reply])[0]
 
 
 def of_conversations(tool, script, tokens):
+    """The same of each client, that asks the unit of a tool for the script's reply."""
     for client in conversations.CLIENTS:
         with unit.running([script], tool) as served:
             said = tried(client.talk, served.port, BATCHES, [])

@@ -2,8 +2,6 @@
 use Rattle.wire.proofs.Over.{then, ended}
 use Rattle.wire.specs.Fields.{flat}
 use Rattle.token.proofs.Puts.{wrote-low}
-use denote.Ref.{now}
-use Rattle.text.specs.Units.{units}
 use borrow.Author.Needs.{needs}
 use Rattle.token.proofs.put_us_varchar.Statement.{statement}
 use Rattle.token.proofs.put_us_varchar.Tie as tie
@@ -25,9 +23,9 @@ same-length c = search needs
 
 returns : tie.Need-returns
 unfolding flat
-returns c = let text = now (c .before .before .before .before .before .before .before .before .before .before .before .args .text) in
+returns c =
     let count = rw (c .before .before .before .before .before .before .before .units .ensures) at (c .before .before .before .before .before .before .put-u16-le .ensures) in
-    then (wrote-low 2 (units text) count) (then (c .before .before .put-slice .ensures) (ended (c .before .before .put-slice .ensures)))
+    then (wrote-low 2 _ count) (then (c .before .before .put-slice .ensures) (ended (c .before .before .put-slice .ensures)))
 
 pub put-us-varchar-spec : {M : Type 1} → statement M
 put-us-varchar-spec =
