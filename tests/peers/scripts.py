@@ -21,16 +21,16 @@ SELECT = 0x00C1
 LAST, MORE = 0x0010, 0x0011
 # The database that a client asks for; pymssql takes ASCII alone.
 DATABASE = "station 7"
-LETTERS = "abcXYZ 019_-é€Ωж中あ"
-PAIRS = "😀𝄞"
+# The last two are surrogate pairs.
+LETTERS = "abcXYZ 019_-é€Ωж中あ😀𝄞"
 
 
 def record(kind, payload=b""):
     return struct.pack("<IH", len(payload), kind) + payload
 
 
-def text(source, most, letters=LETTERS):
-    return "".join(source.choice(letters) for _ in range(source.randint(0, most))).encode("utf-16-le")
+def text(source, most):
+    return "".join(source.choice(LETTERS) for _ in range(source.randint(0, most))).encode("utf-16-le")
 
 
 class Script:
@@ -57,7 +57,7 @@ class Script:
         source = self.source
         number, line = source.getrandbits(32), source.getrandbits(32)
         state, severity = source.getrandbits(8), self.severity("info")
-        texts = [text(source, most, LETTERS + PAIRS) for most in (30, 8, 8)]
+        texts = [text(source, most) for most in (30, 8, 8)]
         counts = [len(each) // 2 for each in texts]
         self.put(kind, struct.pack("<IBBI3H", number, state, severity, line, *counts) + b"".join(texts))
         self.tokens.append(("info", number, state, severity, *texts, line))
@@ -65,14 +65,14 @@ class Script:
     def error(self, kind, status):
         """Puts an error; answers the tokens that it is where it is sent."""
         number, severity = self.source.getrandbits(32), self.severity("error")
-        said = text(self.source, 40, LETTERS + PAIRS)
+        said = text(self.source, 40)
         self.put(kind, struct.pack("<IB", number, severity) + said)
         return [("error", number, 1, severity, said, b"", b"", 1), ("done", status, SELECT, 0)]
 
     def column(self, type_byte):
         drawn = struct.pack("<IB", self.source.getrandbits(32) & ~0x0C000000, self.source.getrandbits(8))
         collation = LATIN if type_byte == 7 else drawn
-        name = text(self.source, 10, LETTERS + PAIRS)
+        name = text(self.source, 10)
         self.put(COLUMN, bytes([type_byte]) + collation + name)
         sent = collation if type_byte in WITH_COLLATION else b""
         self.tokens.append(("column", 0, 0, *TYPES[type_byte], sent, name))
@@ -81,7 +81,7 @@ class Script:
         if type_byte <= 4:
             return self.integer(type_byte)
         if type_byte == 5:
-            held = text(self.source, self.source.choice((0, 8, 300)), LETTERS + PAIRS)
+            held = text(self.source, self.source.choice((0, 8, 300)))
             self.put(CELL, b"\5" + held)
             return held
         return self.long_value(type_byte)
@@ -105,7 +105,7 @@ class Script:
             return None
         self.put(CELL, bytes([MAX_VALUES[type_byte]]))
         if type_byte == 6:
-            held = text(source, source.choice((0, 20, 400)), LETTERS + PAIRS)
+            held = text(source, source.choice((0, 20, 400)))
         elif type_byte == 7:
             held = "".join(source.choice("abc XYZ019é€ü") for _ in range(source.choice((0, 20, 400)))).encode("cp1252")
         else:
@@ -211,9 +211,8 @@ def named_scripts():
     """Scripts whose columns have names with surrogate pairs: one pair, 255 units of which the last two are a pair, 127
     pairs and a unit; and one of all three."""
     names = [each.encode("utf-16-le") for each in ("😀", "n" * 253 + "𝄞", "😀" * 127 + "n")]
-    for held in ([name] for name in names):
+    for held in names[:1], names[1:2], names[2:], names:
         yield named_script(held)
-    yield named_script(names)
 
 
 def named_script(names):

@@ -6,7 +6,7 @@ use lib.ListN.{length}
 use Rattle.wire.specs.Le.{le}
 use Rattle.wire.specs.Over.{Wrote}
 use Rattle.wire.specs.Fields.{Field, word, raw, flat}
-use Rattle.wire.proofs.Over.{wrote-as}
+use Rattle.wire.proofs.Over.{then, ended, wrote-as}
 use Rattle.wire.proofs.Le.{le-mod}
 use Rattle.wire.proofs.Fields.{flat-cat}
 use Rattle.token.specs.Tokens.{Token, metadata, column, row, cell, done, message, EncodedCell, integer, noInteger, bounded, long, noLong, putChunks, put, tokenBytes, joined, messageHead, typeFields}
@@ -16,6 +16,12 @@ use borrow.Author.Tests.{ne-eqb}
 -- the low bytes of a number are all that is written
 pub wrote-low : (k v : ℕ) {l m : List ℕ} {at to : ℕ} → Wrote l at (le k (v % 256 ^ k)) m to → Wrote l at (le k v) m to
 wrote-low k v w = wrote-as w (le-mod k v)
+
+-- a count by its low bytes, and the bytes after it
+pub wrote-counted : (k v : ℕ) {l m n : List ℕ} {at to end : ℕ} {xs : List ℕ} → Wrote l at (le k (v % 256 ^ k)) m to → Wrote m to xs n end
+    → Wrote l at (flat (word k v ∷ raw xs ∷ [])) n end
+unfolding flat
+wrote-counted k v w u = then (wrote-low k v w) (then u (ended u))
 
 -- fields before others
 pub chunks-before : (cs : List (List ℕ)) (fs : List Field) → putChunks cs fs ≡ putChunks cs [] ++ fs

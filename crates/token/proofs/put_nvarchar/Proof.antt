@@ -1,10 +1,6 @@
 -- `token::put_nvarchar` meets its contract. Assumes nothing.
-use Rattle.wire.proofs.Over.{then, ended}
-use Rattle.wire.specs.Fields.{flat}
 use Rattle.token.specs.Tokens.{tokenBytes}
-use Rattle.token.proofs.Puts.{wrote-low}
-use denote.Ref.{now}
-use lib.ListN.{length}
+use Rattle.token.proofs.Puts.{wrote-counted}
 use borrow.Author.Needs.{needs}
 use Rattle.token.proofs.put_nvarchar.Statement.{statement}
 use Rattle.token.proofs.put_nvarchar.Tie as tie
@@ -22,8 +18,8 @@ same-length : tie.Need-same-length
 same-length c = search needs
 
 returns : tie.Need-returns
-unfolding tokenBytes flat
-returns c = let a = c .before .before .before .before .before .before .before .before .before .before .args in then (wrote-low 2 (length (now (a .text))) (c .before .before .before .before .before .before .put-u16-le .ensures)) (then (c .before .before .put-slice .ensures) (ended (c .before .before .put-slice .ensures)))
+unfolding tokenBytes
+returns c = wrote-counted 2 _ (c .before .before .before .before .before .before .put-u16-le .ensures) (c .before .before .put-slice .ensures)
 
 pub put-nvarchar-spec : {M : Type 1} → statement M
 put-nvarchar-spec =

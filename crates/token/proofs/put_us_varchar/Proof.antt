@@ -1,7 +1,5 @@
 -- `token::put_us_varchar` meets its contract. Assumes nothing.
-use Rattle.wire.proofs.Over.{then, ended}
-use Rattle.wire.specs.Fields.{flat}
-use Rattle.token.proofs.Puts.{wrote-low}
+use Rattle.token.proofs.Puts.{wrote-counted}
 use borrow.Author.Needs.{needs}
 use Rattle.token.proofs.put_us_varchar.Statement.{statement}
 use Rattle.token.proofs.put_us_varchar.Tie as tie
@@ -22,10 +20,10 @@ same-length : tie.Need-same-length
 same-length c = search needs
 
 returns : tie.Need-returns
-unfolding flat
 returns c =
-    let count = rw (c .before .before .before .before .before .before .before .units .ensures) at (c .before .before .before .before .before .before .put-u16-le .ensures) in
-    then (wrote-low 2 _ count) (then (c .before .before .put-slice .ensures) (ended (c .before .before .put-slice .ensures)))
+    wrote-counted 2 _
+    (rw (c .before .before .before .before .before .before .before .units .ensures) at (c .before .before .before .before .before .before .put-u16-le .ensures))
+    (c .before .before .put-slice .ensures)
 
 pub put-us-varchar-spec : {M : Type 1} → statement M
 put-us-varchar-spec =
