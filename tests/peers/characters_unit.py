@@ -1,5 +1,5 @@
-"""The unit of tools/serve.py, with its arguments, but that the names of characters.py are counted in characters, as the
-Rust counts them."""
+"""The unit of tools/serve.py, with its arguments, but that two column names are counted in characters, as the Rust counts
+them, and not in units. What clients make of it is told by characters.py."""
 import pathlib
 import sys
 

@@ -166,7 +166,7 @@ fn readings_of_texts_and_names() {
 }
 
 /// Document 02, 2026-08: the count before a column's name, byte 19 of a reply whose first column is an
-/// integer. The Rust's is 1 and 127 where a name is one pair and 127.
+/// integer. The Rust counts characters: 1 where the name is a pair, 127 where it is 127 of them.
 #[test]
 fn a_name_is_counted_in_units() {
     let pair = &[0x3D, 0xD8, 0x00, 0xDE][..];
