@@ -2,7 +2,7 @@
 use crate::{labels, lines, logins, procedures, replies, requests, scripts};
 use packet::{PacketHeader, PacketStatus, Parsed};
 
-#[derive(Drop)]
+#[derive(Clone, Copy)]
 pub(crate) enum Call {
     Reply,
     Packets,

@@ -1,6 +1,8 @@
 // `answer CALL`: one call of the crates, its input on standard input, its answer as lines of text.
 // `answer many CALL`: any number of inputs, each a 4-byte little-endian length and the bytes; an empty line follows each answer.
 // Other arguments: a line on standard error says what it takes, and standard input is not read.
+#![tactic(auto)]
+
 mod calls;
 mod labels;
 mod lines;

@@ -39,7 +39,7 @@ pub(crate) fn once(call: Call, input: &mut [u8], out: &mut [u8]) -> usize {
 }
 
 // Where a run over many inputs stands: how many bytes stand in out, and the length of the next input, if there is one.
-#[derive(Drop)]
+#[derive(Clone, Copy)]
 struct Run {
     at: usize,
     len: u32,

@@ -1,5 +1,7 @@
 // `capture`: a capture of requests on standard input; the numbers of its marked records, one a line, or only the line
 // `refused N`. It takes no arguments.
+#![tactic(auto)]
+
 use capture_marks::Marked;
 use libc::{STDERR_FILENO, STDIN_FILENO, STDOUT_FILENO};
 use refusals::INPUT_TOO_LONG;

@@ -1,5 +1,7 @@
 // Stored captures of requests (document 02, 2026-05): which of their records have a headers length that cannot be. Any bytes
 // are answered; a refusal is its number in document 01.
+#![tactic(auto)]
+
 ghost use Rattle.std.specs.Prelude.{◌≡◌, ◌≤◌, ◌+◌, length};
 ghost use Rattle.wire.specs.Over.{overwrite};
 ghost use Rattle.capture_marks.specs.Marks.{is_marked, mark_of, marks_of, counted_of, marks_in, slots_after};
@@ -12,7 +14,7 @@ use script::Found;
 pub const REQUEST_BODY: u16 = 0x0021;
 
 // How many records are marked, or a refusal, which leaves the slots.
-#[derive(Drop)]
+#[derive(Clone, Copy)]
 pub enum Marked {
     Count(usize),
     Refused(u8),

@@ -1,5 +1,7 @@
 // Column types and cells, read at a place (MS-TDS 2.2.5.4.2 and 2.2.5.4.3, 2.2.5.6 TYPE_INFO, 2.2.5.2.3 PLP_BODY). They
 // know nothing of headers and positions.
+#![tactic(auto)]
+
 ghost use Rattle.std.specs.Prelude.{◌≡◌, true, not, ◌&&◌, ◌||◌, suc, ◌+◌, ◌<◌, ◌≤◌, ◌^◌, leb, length};
 ghost use Rattle.wire.specs.Even.{even};
 ghost use Rattle.token.specs.Types.{length_width};
@@ -17,7 +19,7 @@ use refusals::INNER_WRONG;
 use wire::Part;
 
 // A cell's value, by case. A Max part runs from the first chunk length through the zero one.
-#[derive(Drop)]
+#[derive(Clone, Copy)]
 pub enum Value {
     Number(i64),
     Part(Part),
@@ -26,7 +28,7 @@ pub enum Value {
 }
 
 // A column's type: its code, its length or most bytes, and its collation, which is empty where the type has none.
-#[derive(Drop)]
+#[derive(Clone, Copy)]
 pub struct TypeInfo {
     pub code: u8,
     pub limit: u16,
@@ -52,13 +54,13 @@ pub const NULL_TOTAL: u64 = 0xFFFF_FFFF_FFFF_FFFF;
 pub const UNKNOWN_TOTAL: u64 = 0xFFFF_FFFF_FFFF_FFFE;
 
 // A column's type, with the place after it.
-#[derive(Drop)]
+#[derive(Clone, Copy)]
 pub struct TypeAt {
     pub info: TypeInfo,
     pub next: usize,
 }
 
-#[derive(Drop)]
+#[derive(Clone, Copy)]
 pub enum TypeRead {
     Whole(TypeAt),
     Refused(u8),
@@ -130,7 +132,7 @@ fn length_at(lent: &[u8], frame: Frame, at: usize, code: u8) -> NumberRead
 }
 
 // A cell's value, with the place after it.
-#[derive(Drop)]
+#[derive(Clone, Copy)]
 pub enum CellRead {
     Whole(Value, usize),
     Refused(u8),
@@ -291,14 +293,14 @@ fn goes_with(n: u64, text: bool) -> bool
 
 // The chunks of a Max value: the part from the first chunk length through the zero one, how many bytes the chunks hold
 // together, and the place after them.
-#[derive(Drop)]
+#[derive(Clone, Copy)]
 pub struct ChunksAt {
     pub part: Part,
     pub count: usize,
     pub next: usize,
 }
 
-#[derive(Drop)]
+#[derive(Clone, Copy)]
 pub enum ChunksRead {
     Whole(ChunksAt),
     Refused(u8),
@@ -346,7 +348,7 @@ pub fn chunks_at(
 }
 
 // What a chunk can be: one of len bytes, or the zero length that ends the chunks; with the place after it.
-#[derive(Drop)]
+#[derive(Clone, Copy)]
 enum ChunkRead {
     More { len: usize, next: usize },
     Last(usize),

@@ -1,6 +1,8 @@
 // What a script emits (document 01, 'What a script emits') and how long it is: faults and sizes, found in two passes over the
 // records, the script's verdict and the size pass; and what the writing pass asks too: the records of a kind that stand next,
 // a set's error, a column's collation.
+#![tactic(auto)]
+
 ghost use Rattle.std.specs.Prelude.{◌≡◌, cond, ◌||◌, [], ◌∷◌, ◌++◌, ◌+◌, ◌^◌, ◌≤◌, ◌<◌, eqb, length, take, drop};
 ghost use Rattle.refusals.specs.Numbers.{name_too_long};
 ghost use Rattle.script.specs.Records.{records};
@@ -21,7 +23,7 @@ use token::{ColumnValue, KnownColumnValue, KnownDataType, SqlDataType};
 use wire::Part;
 
 // A script's size: its reply's length, or the refusal's number.
-#[derive(Drop)]
+#[derive(Clone, Copy)]
 pub enum Measure {
     Size(usize),
     Refused(u8),
@@ -29,7 +31,7 @@ pub enum Measure {
 
 // The records of one kind that stand next at a place: how many, the bytes of their payloads, what they add to a reply as
 // far as it matters, the first fault among them, and the place after them.
-#[derive(Drop)]
+#[derive(Clone, Copy)]
 pub struct Run {
     pub count: usize,
     pub bytes: usize,
@@ -39,14 +41,14 @@ pub struct Run {
 }
 
 // What a record emits: its fault, its size as far as it matters, and the place where the walk goes on.
-#[derive(Drop)]
+#[derive(Clone, Copy)]
 struct Turn {
     fault: u8,
     size: usize,
     next: usize,
 }
 
-#[derive(Drop)]
+#[derive(Clone, Copy)]
 struct Sized {
     fault: u8,
     size: usize,
@@ -194,7 +196,7 @@ fn longer(run: Run, kind: u16, p: &[u8], next: usize) -> Run
 }
 
 // The error of a set, or none.
-#[derive(Drop)]
+#[derive(Clone, Copy)]
 pub enum ErrorAt {
     At(Part),
     Missing,

@@ -1,6 +1,8 @@
 // The fit check (document 01, 'The script'; document 02, 2026-06): whether a script fits, or the first misfit that it has: by set; in a
 // set the classification, then columns, then cells by row and column. One pass over the records, with the types of the set's columns at
 // hand, after the passes that find a script's refusal.
+#![tactic(auto)]
+
 ghost use Rattle.std.specs.Prelude.{◌≡◌, length, drop};
 ghost use Rattle.script.specs.Records.{records};
 ghost use Rattle.fit.specs.Misfits.{cell_fits, first_of, fit_of};
@@ -11,7 +13,7 @@ use emission::{ErrorAt, Measure};
 use script::Found;
 
 // A misfit: the classification of a set, a column, or a cell. All numbers count from 0.
-#[derive(Drop)]
+#[derive(Clone, Copy)]
 pub enum Misfit {
     Classification {
         set: usize,
@@ -28,7 +30,7 @@ pub enum Misfit {
 }
 
 // What the fit check answers: yes, no with the first misfit, or the refusal's number.
-#[derive(Drop)]
+#[derive(Clone, Copy)]
 pub enum Fit {
     Yes,
     No(Misfit),
@@ -56,7 +58,7 @@ fn cell_fits(data_type: u8, p: &[u8]) -> bool
 }
 
 // A row's cells: all right, with the place after them, or the number of the first that is wrong.
-#[derive(Drop)]
+#[derive(Clone, Copy)]
 enum Row {
     Right(usize),
     Wrong(usize),
@@ -117,7 +119,7 @@ fn row_end(cells: usize, columns: usize, at: usize) -> Row
 }
 
 // A set's columns: their count and the place after them, or too many.
-#[derive(Drop)]
+#[derive(Clone, Copy)]
 enum Columns {
     Right { count: usize, next: usize },
     TooMany,
@@ -152,7 +154,7 @@ fn walk_columns(s: &[u8], from: usize, types: &mut [u8; MOST_COLUMNS]) -> Column
 }
 
 // A set: all right, with the place after it, or its first misfit.
-#[derive(Drop)]
+#[derive(Clone, Copy)]
 enum Set {
     Right(usize),
     Wrong(Misfit),

@@ -1,5 +1,7 @@
 // The login (MS-TDS 2.2.6.4, LOGIN7): `parse_login7` of the Rust, and the database to open. A login of any length is read:
 // what it does not hold is missing.
+#![tactic(auto)]
+
 ghost use Rattle.std.specs.Prelude.{◌≡◌, ◌||◌, ◌≤◌, ◌<◌, ◌+◌, ◌^◌, min, eqb, length, drop};
 ghost use mathlib.Core.List.{foldl};
 ghost use Rattle.wire.specs.Over.{overwrite};
@@ -13,21 +15,21 @@ use refusals::BUFFER_TOO_SHORT;
 use wire::Part;
 
 // A text or a token as a part of the body, counted from its first byte.
-#[derive(Drop)]
+#[derive(Clone, Copy)]
 pub enum Text {
     At(Part),
     Missing,
 }
 
 // A byte that may not be there.
-#[derive(Drop)]
+#[derive(Clone, Copy)]
 pub enum Byte {
     Is(u8),
     Absent,
 }
 
 // Stands for `Login7AuthInfo`; session is whether the session-recovery feature carried session state.
-#[derive(Drop)]
+#[derive(Clone, Copy)]
 pub struct Login {
     pub has_fedauth: bool,
     pub access_token_bytes: Text,
@@ -41,7 +43,7 @@ pub struct Login {
 }
 
 // The login and how many feature ids it has, or a refusal.
-#[derive(Drop)]
+#[derive(Clone, Copy)]
 pub enum Answer {
     Read { login: Login, ids: usize },
     Refused(u8),
@@ -115,14 +117,14 @@ fn features_at(body: &[u8]) -> usize
 }
 
 // A feature. Its data are a part of the body that may run past the end.
-#[derive(Drop)]
+#[derive(Clone, Copy)]
 struct Feature {
     id: u8,
     part: Part,
 }
 
 // A feature, or none any more.
-#[derive(Drop)]
+#[derive(Clone, Copy)]
 enum Found {
     Here(Feature),
     End,
@@ -354,7 +356,7 @@ fn head(body: &[u8]) -> Login
 }
 
 // A login after its features, and how many they are.
-#[derive(Drop)]
+#[derive(Clone, Copy)]
 struct Walked {
     login: Login,
     count: usize,

@@ -1,6 +1,8 @@
 // The packet header (MS-TDS 2.2.3.1): packet types, status, the header's eight bytes read and written, the wrapping of a
 // reply in one packet, and its cutting into packets of an agreed size (document 02, 2026-02). Stands for `PacketType`,
 // `PacketStatus`, `PacketHeader` and `wrap_in_packet` of the Rust.
+#![tactic(auto)]
+
 ghost use Rattle.std.specs.Prelude.{◌≡◌, cond, [], ◌∷◌, ◌+◌, ◌-◌, ◌≤◌, ◌<◌, min, length, take, drop};
 ghost use Rattle.wire.specs.Over.{overwrite, PlaceAfter, Wrote};
 ghost use Rattle.packet.specs.Types.{byte_of, type_of};
@@ -15,7 +17,7 @@ use refusals::{HEADER_TOO_SHORT, UNKNOWN_PACKET_TYPE};
 
 pub const PACKET_HEADER_SIZE: usize = 8;
 
-#[derive(Drop)]
+#[derive(Clone, Copy)]
 pub enum PacketType {
     SqlBatch,
     FedAuthToken,
@@ -27,7 +29,7 @@ pub enum PacketType {
     TransactionManager,
 }
 
-#[derive(Drop)]
+#[derive(Clone, Copy)]
 pub enum KnownType {
     Known(PacketType),
     Unknown,
@@ -69,7 +71,7 @@ impl PacketType {
 }
 
 // The status byte, kept with all its bits, of which two are tested.
-#[derive(Drop)]
+#[derive(Clone, Copy)]
 pub struct PacketStatus(pub u8);
 
 impl PacketStatus {
@@ -102,7 +104,7 @@ impl PacketStatus {
     }
 }
 
-#[derive(Drop)]
+#[derive(Clone, Copy)]
 pub struct PacketHeader {
     pub packet_type: PacketType,
     pub status: PacketStatus,
@@ -112,7 +114,7 @@ pub struct PacketHeader {
     pub window: u8,
 }
 
-#[derive(Drop)]
+#[derive(Clone, Copy)]
 pub enum Parsed {
     Header(PacketHeader),
     Refused(u8),
@@ -326,7 +328,7 @@ fn move_parts(buf: &mut [u8], room: usize, from: usize, total: usize) -> usize
 }
 
 // What cutting a payload where it stands comes to: the length of its packets, or no room for them.
-#[derive(Drop)]
+#[derive(Clone, Copy)]
 pub enum InPlace {
     Cut(usize),
     NoRoom,

@@ -9,7 +9,7 @@ use refusals::{CUT, END_BIT_WRONG, HEADER_TOO_SHORT, NOT_A_REPLY, NOT_THE_NEXT};
 
 // A packet in lent bytes: the payload places of its first byte and after its last, its number from 1, and whether the end bit
 // is on it. Its payload byte n stands at index n + 8 * number of the lent bytes. A request's body is a frame of number 0.
-#[derive(Drop)]
+#[derive(Clone, Copy)]
 pub struct Frame {
     pub base: usize,
     pub end: usize,
@@ -18,7 +18,7 @@ pub struct Frame {
 }
 
 // What stands where a packet may begin: a packet of some payload bytes, with the end bit or not; or why there is none.
-#[derive(Drop)]
+#[derive(Clone, Copy)]
 pub enum Next {
     Packet { len: usize, last: bool },
     Over,
@@ -27,7 +27,7 @@ pub enum Next {
 }
 
 // What follows a frame.
-#[derive(Drop)]
+#[derive(Clone, Copy)]
 pub enum Moved {
     To(Frame),
     Over,
@@ -36,14 +36,14 @@ pub enum Moved {
 }
 
 // A payload place, with the packet that it lies in; or the refusal of a position.
-#[derive(Drop)]
+#[derive(Clone, Copy)]
 pub enum Spotted {
     At(Frame, usize),
     Refused(u8),
 }
 
 // The packet of the byte before a payload place; or the refusal of reading on, where the payload ends before it.
-#[derive(Drop)]
+#[derive(Clone, Copy)]
 pub enum Reached {
     In(Frame),
     Past(u8),

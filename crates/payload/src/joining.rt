@@ -10,7 +10,7 @@ use crate::frames::{Frame, Moved, first, onward};
 use refusals::{BUFFER_TOO_SHORT, END_BIT_WRONG};
 
 // How many payload bytes were written to the buffer's front; or what stops the packets, then 20 where the buffer is too short.
-#[derive(Drop)]
+#[derive(Clone, Copy)]
 pub enum Joined {
     Written(usize),
     Refused(u8),

@@ -1,5 +1,7 @@
 // Numbers and parts of a payload, read at a place: each with the place after it, or the refusal of reading on where the payload
 // ends within it. A field that its frame holds whole is read there; only one that does not has the headers after it tested.
+#![tactic(auto)]
+
 pub mod frames;
 pub mod joining;
 
@@ -13,26 +15,26 @@ use refusals::CUT;
 use wire::Part;
 
 // A number, with the place after it.
-#[derive(Drop)]
+#[derive(Clone, Copy)]
 pub struct NumberAt {
     pub value: u64,
     pub next: usize,
 }
 
-#[derive(Drop)]
+#[derive(Clone, Copy)]
 pub enum NumberRead {
     Whole(NumberAt),
     Refused(u8),
 }
 
 // A part, with the place after it.
-#[derive(Drop)]
+#[derive(Clone, Copy)]
 pub struct PartAt {
     pub part: Part,
     pub next: usize,
 }
 
-#[derive(Drop)]
+#[derive(Clone, Copy)]
 pub enum PartRead {
     Whole(PartAt),
     Refused(u8),

@@ -1,5 +1,7 @@
 // The reply reader (document 01, 'The reply reader'; document 02, 2026-02): a position by value, and a step over packets that
 // hands back a token, the end or a refusal with the next position.
+#![tactic(auto)]
+
 mod token_reader;
 
 ghost use Rattle.std.specs.Prelude.{◌≡◌, true, ◌≤◌, length};
@@ -26,7 +28,7 @@ const MORE: u16 = 0x0001;
 
 // A token of a reply; each column after COLMETADATA and each cell after ROW is one of its own. ERROR and INFO are messages
 // by their code.
-#[derive(Drop)]
+#[derive(Clone, Copy)]
 pub enum Token {
     ColMetadata(u16),
     Column {
@@ -59,7 +61,7 @@ pub enum Token {
 // Where a reader stands: the packet, counted from 1, and the place in it of the next byte, counted from the packet's first;
 // how many columns the current set has, with the type and the length of each that was read; how many columns and how many cells
 // are still to be read; whether the last DONE was read.
-#[derive(Drop)]
+#[derive(Clone, Copy)]
 pub struct Position {
     pub packet: usize,
     pub place: usize,
@@ -71,14 +73,14 @@ pub struct Position {
     pub over: bool,
 }
 
-#[derive(Drop)]
+#[derive(Clone, Copy)]
 pub enum Answer {
     Token(Token),
     End,
     Refused(u8),
 }
 
-#[derive(Drop)]
+#[derive(Clone, Copy)]
 pub struct Step {
     pub answer: Answer,
     pub next: Position,
@@ -153,7 +155,7 @@ impl Position {
 }
 
 // A position without the types that it holds.
-#[derive(Drop)]
+#[derive(Clone, Copy)]
 pub struct Spot {
     pub packet: usize,
     pub place: usize,
@@ -165,7 +167,7 @@ pub struct Spot {
 
 // What a step asks of the types that a position holds: whether all of them are column types, and the type and the length of
 // the column whose cell is next, 0 where it has none.
-#[derive(Drop)]
+#[derive(Clone, Copy)]
 pub struct HeldTypes {
     pub sound: bool,
     pub code: u8,
@@ -173,7 +175,7 @@ pub struct HeldTypes {
 }
 
 // What a step comes to: a token with the packet and the place after it, the end, or a refusal.
-#[derive(Drop)]
+#[derive(Clone, Copy)]
 pub enum Got {
     Token(Token, usize, usize),
     End,

@@ -16,7 +16,7 @@ use refusals::{INNER_WRONG, ROW_WITHOUT_COLUMNS, TOO_MANY_COLUMNS, UNKNOWN_TOKEN
 use wire::Part;
 
 // A token, with the place after it.
-#[derive(Drop)]
+#[derive(Clone, Copy)]
 pub(crate) enum TokenRead {
     Whole(Token, usize),
     Refused(u8),
@@ -188,7 +188,7 @@ fn is_message_length(n: usize) -> bool
 }
 
 // What follows a message's class.
-#[derive(Drop)]
+#[derive(Clone, Copy)]
 struct Texts {
     text: Part,
     server: Part,
@@ -196,7 +196,7 @@ struct Texts {
     line: u32,
 }
 
-#[derive(Drop)]
+#[derive(Clone, Copy)]
 enum TextsRead {
     Whole(Texts, usize),
     Refused(u8),

@@ -1,5 +1,6 @@
 // The numbers of refusals, each with its cause (document 01, 'Who causes which refusal'). No other crate has a number of its own.
 // docs/FORMATS.md, 'Refusals', is the table of them: who causes each, which calls give it, and which one comes first.
+#![tactic(auto)]
 
 // No refusal, where a number is asked for.
 pub const NONE: u8 = 0;

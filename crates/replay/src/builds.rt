@@ -4,7 +4,7 @@ use crate::{calls, spaces, told, words};
 use response::Acknowledgement;
 
 // A builder's answer: a refusal, or 0 and how many bytes it wrote.
-#[derive(Drop)]
+#[derive(Clone, Copy)]
 struct Told {
     refusal: u8,
     len: usize,

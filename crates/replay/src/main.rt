@@ -1,6 +1,8 @@
 // `replay`: makes the calls of a list (tests/vectors), which it reads on standard input, on the proved crates, and
 // compares the answers. Prints how many lines of each function it replayed, the number of each line that differs, and
 // last `replayed N, D differ`.
+#![tactic(auto)]
+
 mod builds;
 mod calls;
 mod captures;

@@ -5,7 +5,7 @@ use wire::Part;
 
 // Where a run stands: the place of the next line, the number of the last one, the function whose lines are being
 // counted (its name as a part of the list) and how many there were, how many lines in all, and how many differ.
-#[derive(Drop)]
+#[derive(Clone, Copy)]
 pub(crate) struct Run {
     at: usize,
     line: u64,

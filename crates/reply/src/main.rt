@@ -1,4 +1,6 @@
 // `reply`: a script on standard input; its reply packet, raw, or the line `refused N`. It takes no arguments.
+#![tactic(auto)]
+
 use libc::{STDERR_FILENO, STDIN_FILENO, STDOUT_FILENO};
 use refusals::INPUT_TOO_LONG;
 use result::Built;

@@ -1,5 +1,7 @@
 // Requests of a client: SQL batches, transaction manager requests, the transaction descriptor among their headers, and
 // federated authentication tokens. Any bytes are answered; a refusal is its number in document 01.
+#![tactic(auto)]
+
 ghost use Rattle.std.specs.Prelude.{◌≡◌, ◌≤◌, length};
 ghost use Rattle.request.specs.Headers.{all_headers};
 ghost use Rattle.request.specs.Batch.{batch_text, sql_batch};
@@ -19,7 +21,7 @@ const HEADER_TYPE_TRANSACTION_DESCRIPTOR: u16 = 2;
 const TRANSACTION_DESCRIPTOR_LENGTH: usize = 18;
 
 // The length of a request's headers block.
-#[derive(Drop)]
+#[derive(Clone, Copy)]
 pub enum Headers {
     Length(usize),
     // The request has no four bytes for it.
@@ -31,28 +33,28 @@ pub enum Headers {
 }
 
 // The text as a part of the request.
-#[derive(Drop)]
+#[derive(Clone, Copy)]
 pub enum Batch {
     Text(Part),
     Refused(u8),
 }
 
 // A request's type, as MS-TDS numbers them.
-#[derive(Drop)]
+#[derive(Clone, Copy)]
 pub enum TransactionRequest {
     RequestType(u16),
     Refused(u8),
 }
 
 // The transaction descriptor and the count of outstanding requests.
-#[derive(Drop)]
+#[derive(Clone, Copy)]
 pub enum Descriptor {
     Found { descriptor: u64, count: u32 },
     Missing,
 }
 
 // The token as a part of the packet's payload.
-#[derive(Drop)]
+#[derive(Clone, Copy)]
 pub enum FedAuthToken {
     Bytes(Part),
     Refused(u8),

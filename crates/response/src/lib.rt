@@ -1,6 +1,8 @@
 // Replies other than query results (document 01, 'Other replies'): the `build_` functions of the Rust, by their names and
 // in its order, and the cutting of their payloads into packets (document 02, 2026-02). Text arguments are UTF-16LE, lists are records; the bytes go to the front of a lent buffer.
 // A builder's contract is what it sends (specs/Replies.antt), as answer and as buffer (specs/Answer.antt).
+#![tactic(auto)]
+
 mod faults;
 mod put;
 
@@ -24,7 +26,7 @@ use refusals::{BUFFER_TOO_SHORT, NONE, PACKET_SIZE, RESULT_TOO_LONG};
 use text::text_fault;
 
 // What a builder answers: how many bytes it wrote, or a refusal, which leaves the buffer.
-#[derive(Drop)]
+#[derive(Clone, Copy)]
 pub enum Built {
     Written(usize),
     Refused(u8),
@@ -38,14 +40,14 @@ pub const DATABASE_ROUTE: u16 = 0x0012;
 pub const FEATURE: u16 = 0x0013;
 
 // An acknowledgement of enhanced routing with its byte IsEnabled, or none: the Rust's `Option<u8>`.
-#[derive(Drop)]
+#[derive(Clone, Copy)]
 pub enum Acknowledgement {
     IsEnabled(u8),
     Missing,
 }
 
 // What is found of a list before it is written: its refusal, or none, and its size in bytes.
-#[derive(Drop)]
+#[derive(Clone, Copy)]
 struct Measured {
     refusal: u8,
     size: usize,

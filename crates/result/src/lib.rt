@@ -1,5 +1,7 @@
 // The reply of a script (document 01, 'The reply packet'): `build_query_results` of the Rust, with its narrowings, the same reply
 // in packets of an agreed size (document 02, 2026-02), and the room estimate. The writing pass is the third over the records: it comes after every refusal is ruled out by emission's two.
+#![tactic(auto)]
+
 ghost use Rattle.std.specs.Prelude.{◌≡◌, [], ◌+◌, ◌^◌, ◌≤◌, ◌<◌, length, drop};
 ghost use Rattle.std.proofs.Math.Option.{some};
 ghost use Rattle.wire.specs.Fields.{flat};
@@ -20,7 +22,7 @@ use script::Found;
 use token::{ColumnValue, KnownColumnValue, KnownDataType};
 
 // What a builder answers: the bytes written, or the refusal's number. Of the room for a reply, the bytes that would be written.
-#[derive(Drop)]
+#[derive(Clone, Copy)]
 pub enum Built {
     Written(usize),
     Refused(u8),
@@ -37,7 +39,7 @@ const LEADING: u16 = 0x0003;
 const TERMINAL: u16 = 0x0002;
 
 // The writing pass: the place after what was written, and the place where the walk goes on.
-#[derive(Drop)]
+#[derive(Clone, Copy)]
 struct Placed {
     place: usize,
     next: usize,

@@ -1,6 +1,8 @@
 // The round trip (document 01, 'What a script emits', 'The reply reader'): what the reply builder writes for a script that fits
 // is what the reply reader reads, of one packet and of packets of each size. The theorem is in specs/RoundTrip.antt; `kth_token`
 // and `kth_token_in_packets` have it of running code.
+#![tactic(auto)]
+
 ghost use Rattle.std.specs.Prelude.{◌≡◌, length, take};
 ghost use Rattle.result.specs.Built.{built_of, buffer_of, built_in_packets, buffer_in_packets};
 ghost use Rattle.reader.specs.Positions.{fresh_position};
@@ -13,7 +15,7 @@ use result::Built;
 use wire::Part;
 
 // An answer of a run over a script's reply, or the refusal's number where there is no reply.
-#[derive(Drop)]
+#[derive(Clone, Copy)]
 pub enum Kth {
     Answered(Answer),
     Refused(u8),

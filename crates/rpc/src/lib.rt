@@ -1,5 +1,7 @@
 // Stored procedure calls (MS-TDS 2.2.6.6, RPC Request): the procedure, the flags, one parameter by its number, and the
 // statement of sp_executesql. Any bytes are answered; a refusal is its number in document 02.
+#![tactic(auto)]
+
 ghost use Rattle.std.specs.Prelude.{◌≡◌, cond, ◌||◌, suc, eqb, length};
 ghost use Rattle.packet.specs.Status.{has_bit};
 ghost use Rattle.payload.specs.Places.{body_source, part_to};
@@ -30,14 +32,14 @@ const BATCH_FLAG: u64 = 0xFF;
 const ENCRYPTED: u8 = 0x08;
 
 // A procedure by its name, a part of the request, or by its number.
-#[derive(Drop)]
+#[derive(Clone, Copy)]
 pub enum Procedure {
     Name(Part),
     Number(u16),
 }
 
 // A parameter. Its name is a part of the request, and so are its collation and a text's value.
-#[derive(Drop)]
+#[derive(Clone, Copy)]
 pub struct Parameter {
     pub name: Part,
     pub status: u8,
@@ -46,21 +48,21 @@ pub struct Parameter {
 }
 
 // The parameter that was asked for.
-#[derive(Drop)]
+#[derive(Clone, Copy)]
 pub enum Asked {
     Found(Parameter),
     Missing,
 }
 
 // The value bytes of sp_executesql's first parameter, as a part of the request; other procedures have none.
-#[derive(Drop)]
+#[derive(Clone, Copy)]
 pub enum Statement {
     Value(Part),
     Missing,
 }
 
 // What is answered of a call: one parameter, and of sp_executesql the statement.
-#[derive(Drop)]
+#[derive(Clone, Copy)]
 pub struct Call {
     pub procedure: Procedure,
     pub flags: u16,
@@ -69,7 +71,7 @@ pub struct Call {
 }
 
 // What a request comes to.
-#[derive(Drop)]
+#[derive(Clone, Copy)]
 pub enum Rpc {
     Call(Call),
     Refused(u8),
@@ -139,20 +141,20 @@ fn runs_statement(procedure: Procedure) -> bool
 // ---- the head
 
 // The procedure and the flags of a call.
-#[derive(Drop)]
+#[derive(Clone, Copy)]
 struct Head {
     procedure: Procedure,
     flags: u16,
 }
 
 // What was read, with the place after it.
-#[derive(Drop)]
+#[derive(Clone, Copy)]
 enum HeadRead {
     Whole(Head, usize),
     Refused(u8),
 }
 
-#[derive(Drop)]
+#[derive(Clone, Copy)]
 enum ProcedureRead {
     Whole(Procedure, usize),
     Refused(u8),
@@ -204,13 +206,13 @@ fn procedure_at(body: &[u8], frame: Frame, at: usize) -> ProcedureRead
 // ---- parameters
 
 // What the parameters passed so far answer: the one that was asked for, and the first one's value.
-#[derive(Drop)]
+#[derive(Clone, Copy)]
 struct Seen {
     asked: Asked,
     first: Statement,
 }
 
-#[derive(Drop)]
+#[derive(Clone, Copy)]
 enum ParametersRead {
     Whole(Seen),
     Refused(u8),
@@ -305,27 +307,27 @@ fn part_to(from: usize, to: usize) -> Part
 // ---- a parameter
 
 // A parameter, with the place after it.
-#[derive(Drop)]
+#[derive(Clone, Copy)]
 struct ParameterAt {
     parameter: Parameter,
     next: usize,
 }
 
-#[derive(Drop)]
+#[derive(Clone, Copy)]
 enum ParameterRead {
     Whole(ParameterAt),
     Refused(u8),
 }
 
 // A parameter's name, status and type.
-#[derive(Drop)]
+#[derive(Clone, Copy)]
 struct Metadata {
     name: Part,
     status: u8,
     info: TypeInfo,
 }
 
-#[derive(Drop)]
+#[derive(Clone, Copy)]
 enum MetadataRead {
     Whole(Metadata, usize),
     Refused(u8),

@@ -1,4 +1,6 @@
 // Records, and scripts made of them: which are accepted, and what each record holds (document 01, 'The script').
+#![tactic(auto)]
+
 ghost use Rattle.std.specs.Prelude.{◌≡◌, [], ◌∷◌, cond, length, drop, eqb, leb};
 ghost use Rattle.wire.specs.Le.{le_at};
 ghost use Rattle.script.specs.declared.Found.TheVariants as found;
@@ -12,7 +14,7 @@ use refusals::{KIND_WRONG, NONE, RECORD_CUT, SHAPE_WRONG, TEXT_WRONG};
 use wire::Part;
 
 // What stands at a place: a record, whose payload starts at start and has len bytes, one that is cut, or the end.
-#[derive(Drop)]
+#[derive(Clone, Copy)]
 pub enum Found {
     Record { kind: u16, start: usize, len: usize },
     Cut,
@@ -75,7 +77,7 @@ pub const TRAILING_INFO: u16 = 9;
 
 // Where a script stands, by the record that came last: nothing yet; a set or a column; a leading error; a terminal
 // error or an info; a row or a cell without chunks; a cell or chunk of units, or of bytes; a trailing info.
-#[derive(Drop)]
+#[derive(Clone, Copy)]
 pub enum Stage {
     Start,
     Columns,
@@ -355,7 +357,7 @@ fn end_fault(stage: Stage) -> u8
 }
 
 // A script that is accepted as far as its records go, or its refusal, 11 to 14.
-#[derive(Drop)]
+#[derive(Clone, Copy)]
 pub enum Checked {
     Accepted,
     Refused(u8),

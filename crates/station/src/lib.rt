@@ -2,6 +2,8 @@
 // Every answer is an i64: 0 or more as said, or -N for refusal N with nothing written. `out` is lent for numbers: the
 // first slots are written, and fewer slots than needed is -20, after all other refusals.
 // A call's contract is its outcome (specs/) as answer and as slots; it ends by `refused` or by `answered`.
+#![tactic(auto)]
+
 mod build;
 mod labels;
 mod logins;

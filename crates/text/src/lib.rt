@@ -1,5 +1,7 @@
 // UTF-16LE text: units, surrogates, lengths, white space and trimming.
 // A text is any bytes: two are a unit, the lower first, and an odd last byte belongs to none.
+#![tactic(auto)]
+
 ghost use Rattle.std.specs.Prelude.{◌≡◌, ◌∷◌, ◌+◌, ◌*◌, ◌≤◌, ◌<◌, length, drop};
 ghost use Rattle.text.specs.Units.{units_of, units, total};
 ghost use Rattle.text.specs.Surrogates.{surrogate_of, well_formed, has_pair, characters_in, characters, utf8_in, utf8_length};
@@ -12,7 +14,7 @@ use refusals::{NONE, NOT_UTF16, ODD_TEXT};
 use wire::Part;
 
 // What a unit is: half of a surrogate pair, the high one or the low one, or a character of its own.
-#[derive(Drop)]
+#[derive(Clone, Copy)]
 pub enum Surrogate {
     Plain,
     High,
@@ -116,7 +118,7 @@ pub fn utf8_length(s: &[u8]) -> usize
 }
 
 // What is counted.
-#[derive(Drop)]
+#[derive(Clone, Copy)]
 enum Count {
     Characters,
     Utf8Bytes,

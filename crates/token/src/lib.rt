@@ -1,5 +1,7 @@
 // The tokens of a reply (MS-TDS 2.2.7): their codes, and the writer of each. A writer puts its token's bytes at a place of
 // a lent buffer and answers the place after them; what lies past the buffer's end is not written.
+#![tactic(auto)]
+
 ghost use Rattle.std.specs.Prelude.{◌≡◌, [], ◌∷◌, ◌%◌, length};
 ghost use Rattle.wire.specs.Fields.{flat, word, raw};
 ghost use Rattle.wire.specs.Over.{overwrite, PlaceAfter};
@@ -25,7 +27,7 @@ pub const INFO: u8 = 0xAB;
 const SELECT: u16 = 0x00C1;
 
 // The SQL data types, in the order of a script's type bytes 1 to 8.
-#[derive(Drop)]
+#[derive(Clone, Copy)]
 pub enum SqlDataType {
     TinyInt,
     SmallInt,
@@ -38,7 +40,7 @@ pub enum SqlDataType {
 }
 
 // The data type that a script's type byte stands for, where it stands for one.
-#[derive(Drop)]
+#[derive(Clone, Copy)]
 pub enum KnownDataType {
     Known(SqlDataType),
     Unknown,
@@ -114,7 +116,7 @@ pub fn collation_size(code: u8) -> usize
 }
 
 // The values of a cell, in the order of a script's value bytes 1 to 10; what a value holds stands in its record.
-#[derive(Drop)]
+#[derive(Clone, Copy)]
 pub enum ColumnValue {
     TinyInt,
     SmallInt,
@@ -129,7 +131,7 @@ pub enum ColumnValue {
 }
 
 // The value that a script's value byte stands for, where it stands for one.
-#[derive(Drop)]
+#[derive(Clone, Copy)]
 pub enum KnownColumnValue {
     Known(ColumnValue),
     Unknown,

@@ -1,5 +1,7 @@
 // Event labels (document 02, 2026-07): VARCHAR(MAX) values in Windows-1252, a total and chunks, read to UTF-16LE, and such
 // text written as a value. Any bytes are answered; a refusal is its number in document 01 or 02, and leaves the lent buffer.
+#![tactic(auto)]
+
 mod characters;
 
 ghost use Rattle.std.specs.Prelude.{◌≡◌, true, ◌+◌, ◌*◌, ◌≤◌, ◌<◌, length};
@@ -25,7 +27,7 @@ const MOST_CHARACTERS: usize = 65535;
 const TOTAL_SIZE: usize = 8;
 
 // What reading answers: how many bytes of text were written, that the value is null, or a refusal.
-#[derive(Drop)]
+#[derive(Clone, Copy)]
 pub enum Label {
     Text(usize),
     Null,
@@ -33,7 +35,7 @@ pub enum Label {
 }
 
 // What writing answers: how many bytes of a value were written, or a refusal.
-#[derive(Drop)]
+#[derive(Clone, Copy)]
 pub enum Written {
     Value(usize),
     Refused(u8),

@@ -8,7 +8,7 @@ use native.Mathlib.Numerals.{add-one}
 use lib.ListN.{length, take, drop, set, get_or, length-set, length-append, take-append-drop}
 use lib.Seq.{sets, sets-eq, set_out, take-suc, take_all, length-take-le, drop-set-lt}
 use Rattle.wire.proofs.Cases.{split}
-use Rattle.wire.specs.Over.{overwrite, Wrote}
+use Rattle.wire.specs.Over.{overwrite, PlaceAfter, Wrote}
 
 pub length_over : (xs l : List ℕ) (at : ℕ) → length (overwrite l at xs) ≡ length l
 unfolding overwrite
@@ -60,6 +60,10 @@ then {l} {m} {at = at} {to = to} {xs = xs} {ys = ys} w v =
     (v.0 ∙ same ∙ all, record { place = omega (arith, v.1.place, w.1.place, length-append xs ys) })
 
 -- the bytes, said another way
+-- the two things that a writer's contract says are what it did
+pub wrote : {l m : List ℕ} {at to : ℕ} {xs : List ℕ} → m ≡ overwrite l at xs → PlaceAfter l at xs to → Wrote l at xs m to
+wrote e p = (e, p)
+
 pub wrote_as : {l m : List ℕ} {at to : ℕ} {xs ys : List ℕ} → Wrote l at xs m to → xs ≡ ys → Wrote l at ys m to
 wrote_as w e = rw (sym e) w
 

@@ -1,5 +1,7 @@
 // Numbers and bytes on the wire: read from a slice and written to a lent buffer, at any place.
 // A byte past the end reads as 0 and is not written, so no call asks anything of its caller.
+#![tactic(auto)]
+
 ghost use Rattle.std.specs.Prelude.{◌≡◌, [], ◌∷◌, ◌-◌, min, length, drop};
 ghost use Rattle.wire.specs.Le.{le_at, le};
 ghost use Rattle.wire.specs.Be.{be_at, be};
@@ -7,7 +9,7 @@ ghost use Rattle.wire.specs.Over.{overwrite, PlaceAfter};
 ghost use Rattle.wire.specs.Part.{part_bytes};
 
 // A part of some bytes (document 01's term): where it starts in them, and how many there are.
-#[derive(Drop)]
+#[derive(Clone, Copy)]
 pub struct Part {
     pub start: usize,
     pub len: usize,
