@@ -1,0 +1,20 @@
+-- `login::read_features` meets its contract. The loop's invariant: the features from the place on bring the login to what all
+-- bring it to, and with those counted are as many as all. Assumes nothing.
+use mathlib.Core.List.{foldl}
+use Prim.Native.Nat.{◌+◌, ◌-◌, ◌≤◌}
+use native.Mathlib.Nat.{zero-add, add-zero}
+use Rattle.login.proofs.Walk.{Stands, stands, ends}
+use Rattle.login.specs.declared.Login.{Login}
+use Rattle.login.specs.Inner.{features_from}
+use Rattle.login.specs.Login.{after, head_of}
+use mathlib.Core.Path.{◌≡◌, ap}
+use lib.ListN.{length}
+use native.Mathlib.Omega.{arith}
+use borrow.Author.Rules.{rules}
+use Rattle.login.proofs.read_features.Given as goal
+
+abbrev pub invariant-loop-feature : goal.invariant-loop-feature
+invariant-loop-feature l = (l.count ≤ l.at) × (foldl (after l.body) l.login (features_from l.body l.at) ≡ foldl (after l.body) (head_of l.body) (features_from l.body l.first)) × (l.count + length (features_from l.body l.at) ≡ length (features_from l.body l.first))
+
+abbrev pub decreases-loop-feature : goal.decreases-loop-feature
+decreases-loop-feature l = length l.body - l.at

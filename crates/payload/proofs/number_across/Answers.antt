@@ -1,0 +1,51 @@
+-- `payload::number_across` meets its contract. Assumes nothing.
+use mathlib.Core.Path.{sym, ◌∙◌}
+use Prim.Native.Nat.{◌-◌}
+use native.Mathlib.Omega.{arith}
+use borrow.Author.Tests.{not-true, not-false}
+use Rattle.payload.proofs.Reach.{byte-within}
+use Rattle.payload.proofs.CodeNumbers.{Across, across-nowhere, across-begins, across-past, across-more, across-room, across-ends}
+use borrow.Author.Rules.{rules}
+use Rattle.payload.proofs.number_across.Goals as goal
+
+pub returns-then-not-lies : goal.returns-then-not-lies
+returns-then-not-lies c = (across-nowhere _ _ _ _ (sym c.lies.ensures ∙ c.if-not-lies.true) c.requires.0, tt)
+
+pub loop-i-init : goal.loop-i-init
+loop-i-init c = across-begins _ _ _ _ (sym c.lies.ensures ∙ c.if-not-lies.false) (omega arith)
+
+pub overflow_add-at : goal.overflow_add-at
+overflow_add-at c = omega (arith, c.loop-i.invariant.fits)
+
+pub walk-requires : goal.walk-requires
+walk-requires c = c.loop-i.invariant.lies
+
+pub returns-in-Past : goal.returns-in-Past
+returns-in-Past c = (across-past c.loop-i.invariant c.loop-i-test.true (sym c.walk.ensures ∙ c.in-Past.is), tt)
+
+pub overflow_add-at-in-In : goal.overflow_add-at-in-In
+overflow_add-at-in-In c = omega (arith, c.loop-i.invariant.fits)
+
+pub overflow_mul-next : goal.overflow_mul-next
+overflow_mul-next c = omega (arith, byte-within _ _ _ (sym c.walk.ensures ∙ c.in-In.is))
+
+pub overflow_add-at-in-In-2 : goal.overflow_add-at-in-In-2
+overflow_add-at-in-In-2 c = omega (arith, byte-within _ _ _ (sym c.walk.ensures ∙ c.in-In.is))
+
+pub bounds-lent-at : goal.bounds-lent-at
+bounds-lent-at c = byte-within _ _ _ (sym c.walk.ensures ∙ c.in-In.is)
+
+pub worth-value-requires : goal.worth-value-requires
+worth-value-requires c = omega (arith, c.requires.1, c.loop-i-test.true)
+
+pub overflow_add-value : goal.overflow_add-value
+overflow_add-value c = omega (arith, across-room c.loop-i.invariant c.loop-i-test.true (sym c.walk.ensures ∙ c.in-In.is) c.worth-value.ensures.0 c.worth-value.ensures.1 c.requires.1)
+
+pub loop-i-preserved : goal.loop-i-preserved
+loop-i-preserved c = across-more c.loop-i.invariant c.loop-i-test.true (sym c.walk.ensures ∙ c.in-In.is) c.worth-value.ensures.0 c.worth-value.ensures.1 (omega arith)
+
+pub overflow_add-result : goal.overflow_add-result
+overflow_add-result c = omega (arith, c.loop-i.invariant.fits, c.loop-i.invariant.summed.within)
+
+pub returns : goal.returns
+returns c = across-ends c.loop-i.invariant c.requires.0 c.loop-i-test.false

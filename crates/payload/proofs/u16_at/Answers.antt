@@ -1,0 +1,17 @@
+-- `payload::u16_at` meets its contract. Assumes nothing.
+use native.Mathlib.Omega.{arith}
+use Rattle.payload.proofs.Reach.{held-within, number-held}
+use borrow.Author.Rules.{rules}
+use Rattle.payload.proofs.u16_at.Goals as goal
+
+pub overflow_mul-frame : goal.overflow_mul-frame
+overflow_mul-frame c = omega (arith, held-within _ _ _ _ c.holds.ensures c.if-not-holds.false-raw)
+
+pub overflow_add-at : goal.overflow_add-at
+overflow_add-at c = omega (arith, held-within _ _ _ _ c.holds.ensures c.if-not-holds.false-raw)
+
+pub overflow_add-result : goal.overflow_add-result
+overflow_add-result c = omega (arith, held-within _ _ _ _ c.holds.ensures c.if-not-holds.false-raw)
+
+pub returns : goal.returns
+returns c = (number-held _ _ _ _ c.holds.ensures c.if-not-holds.false-raw c.get_u16_le.ensures, omega arith)

@@ -1,0 +1,9 @@
+-- `token::put_message_head` meets its contract. Assumes nothing.
+use Rattle.wire.proofs.Over.{wrote, then, ended}
+use Rattle.wire.specs.Fields.{flat}
+use borrow.Author.Rules.{rules}
+use Rattle.token.proofs.put_message_head.Goals as goal
+
+pub returns : goal.returns
+unfolding flat
+returns c = let w = then (wrote c.put_u8-a.ensures.buf_after c.put_u8-a.ensures.place_after) (then (wrote c.put_u16_le-b.ensures.buf_after c.put_u16_le-b.ensures.place_after) (then (wrote c.put_u32_le-c.ensures.buf_after c.put_u32_le-c.ensures.place_after) (then (wrote c.put_u8-d.ensures.buf_after c.put_u8-d.ensures.place_after) (then (wrote c.put_u8.ensures.buf_after c.put_u8.ensures.place_after) (ended (wrote c.put_u8.ensures.buf_after c.put_u8.ensures.place_after)))))) in record { buf_after = w.0; place_after = w.1 }
