@@ -15,7 +15,7 @@ unfolding sql_batch
 returns-then-body-eq0 c = let s = c.args.body.now in simp (eq-eqb (length s) 0 (omega arith))
 
 pub batch_text-requires : goal.batch_text-requires
-batch_text-requires c = (block_in c.args.body.now ((sym c.all_headers-headers.ensures ∙ c.in-Length.is))).1
+batch_text-requires c = (block_in c.args.body.now (sym c.all_headers-headers.ensures ∙ c.in-Length.is)).1
 
 pub returns-in-Short : goal.returns-in-Short
 unfolding sql_batch

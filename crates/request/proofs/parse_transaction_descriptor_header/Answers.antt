@@ -4,6 +4,7 @@ use native.Mathlib.Omega.{arith}
 use lib.ListN.{length}
 use Prim.Native.Nat.{◌≤◌}
 use mathlib.Core.Path.{◌≡◌, refl, sym, ◌∙◌}
+use borrow.Enum.Refused.{opened}
 use Rattle.request.specs.Transaction.{transaction_descriptor, descriptor_after}
 use Rattle.request.proofs.Blocks.{block_in, no_block}
 use Rattle.request.specs.Headers.{all_headers}
@@ -13,16 +14,18 @@ use borrow.Author.Rules.{rules}
 use Rattle.request.proofs.parse_transaction_descriptor_header.Goals as goal
 
 pub slice_bounds-descriptor_in-count : goal.slice_bounds-descriptor_in-count
-slice_bounds-descriptor_in-count c = omega (arith, (block_in _ ((sym c.all_headers-headers.ensures ∙ c.in-Length.is))))
+slice_bounds-descriptor_in-count c = omega (arith, (block_in _ (sym c.all_headers-headers.ensures ∙ c.in-Length.is)))
 
--- gone slice-bounds-descriptor-in-start: part-descriptor-in-start c = omega (arith, lies c.before)
+pub slice_bounds-descriptor_in-start : goal.slice_bounds-descriptor_in-start
+slice_bounds-descriptor_in-start c = omega (arith, (block_in _ (sym c.all_headers-headers.ensures ∙ c.in-Length.is)))
 
--- gone slice-bounds-descriptor-in-end: part-descriptor-in-end c = omega (arith, lies c.before)
+pub slice_bounds-descriptor_in-end : goal.slice_bounds-descriptor_in-end
+slice_bounds-descriptor_in-end c = omega (arith, (block_in _ (sym c.all_headers-headers.ensures ∙ c.in-Length.is)))
 
 pub returns-in-Short : goal.returns-in-Short
 unfolding transaction_descriptor
-returns-in-Short c = rw (← c.all_headers-headers.ensures) (no_block (λ x. Missing ≡ descriptor_after c.args.body.now x) c.all_headers-headers.result c.in-Short.in-Short-own.keys1 refl refl refl)
+returns-in-Short c = rw (← c.all_headers-headers.ensures) (no_block (λ x. Missing ≡ descriptor_after c.args.body.now x) c.all_headers-headers.result (opened c.in-Short.in-Short-own.keys1) refl refl refl)
 
 pub returns-in-Length : goal.returns-in-Length
 unfolding transaction_descriptor
-returns-in-Length c = rw ((sym c.all_headers-headers.ensures ∙ c.in-Length.is)) c.descriptor_in.ensures
+returns-in-Length c = rw (sym c.all_headers-headers.ensures ∙ c.in-Length.is) c.descriptor_in.ensures

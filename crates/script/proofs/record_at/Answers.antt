@@ -15,7 +15,7 @@ pub returns-then-heads-at : goal.returns-then-heads-at
 returns-then-heads-at c = c.short_at.ensures ∙ is-left c.args.s.now c.args.at (omega arith)
 
 pub returns-then-heads-at-2 : goal.returns-then-heads-at-2
-returns-then-heads-at-2 c = too_long ((c.args.s.now)) ((c.args.at)) ((c.u32_from_le_bytes-len.ensures ∙ sym (le_bytes 3 ((c.args.at)) ((c.args.s.now)) (omega arith)))) (omega arith) (omega arith)
+returns-then-heads-at-2 c = too_long c.args.s.now c.args.at ((c.u32_from_le_bytes-len.ensures ∙ sym (le_bytes 3 c.args.at c.args.s.now (omega arith)))) (omega arith) (omega arith)
 
 pub returns : goal.returns
-returns c = record_is ((c.args.s.now)) ((c.args.at)) ((c.u32_from_le_bytes-len.ensures ∙ sym (le_bytes 3 ((c.args.at)) ((c.args.s.now)) (omega arith)))) (omega arith) ((c.u16_from_le_bytes-kind.ensures ∙ sym (le_bytes 1 (((c.args.at)) + 4) ((c.args.s.now)) (omega arith)))) (omega arith)
+returns c = record_is c.args.s.now c.args.at ((c.u32_from_le_bytes-len.ensures ∙ sym (le_bytes 3 c.args.at c.args.s.now (omega arith)))) (omega arith) ((c.u16_from_le_bytes-kind.ensures ∙ sym (le_bytes 1 (c.args.at + 4) c.args.s.now (omega arith)))) (omega arith)
