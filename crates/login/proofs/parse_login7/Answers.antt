@@ -18,5 +18,4 @@ pub returns : goal.returns
 unfolding parse_login7 login_of ids_after
 returns c = let s = c.args.body.now in
     let all : features s ≡ features_from s c.features_at-first.result = from_start s ∙ ap (features_from s) (sym c.features_at-first.ensures) in
-    let walked = (c.read_features-walked.ensures.login_value, c.read_features-walked.ensures.count_value) in
-    record { value = rw (all, ← walked.1, ← walked.0, le-ltb _ _ c.if-ids-count.false); ids_after = rw (all, ← walked.1, le-ltb _ _ c.if-ids-count.false) c.write_ids.ensures }
+    record { value = rw (all, ← c.read_features-walked.ensures.count_value, ← c.read_features-walked.ensures.login_value, le-ltb _ _ c.if-ids-count.false); ids_after = rw (all, ← c.read_features-walked.ensures.count_value, le-ltb _ _ c.if-ids-count.false) c.write_ids.ensures }

@@ -20,21 +20,20 @@ loop-feature-init c = let a = c.args in
 
 pub returns-in-End : goal.returns-in-End
 returns-in-End c = let s = c.args.body.now in
-    let none = ends s c.loop-feature.at c.feature_at.ensures.at_value c.in
-    let w = -End.is in
-    (rw none at c.loop-feature.invariant.1, rw (none, add-zero) at c.loop-feature.invariant.2) in record { login_value = w.0; count_value = w.1 }
+    let none = ends s c.loop-feature.at c.feature_at.ensures.at_value c.in-End.is in
+    record { login_value = rw none at c.loop-feature.invariant.1; count_value = rw (none, add-zero) at c.loop-feature.invariant.2 }
 
 pub after-login-requires : goal.after-login-requires
-after-login-requires c = omega (arith, (let l = (c.feature_at.ensures.at_value, c.feature_at.ensures.lies) in stands _ _ l.0 l.1 c.in-Here.is))
+after-login-requires c = omega (arith, (stands _ _ c.feature_at.ensures.at_value c.feature_at.ensures.lies c.in-Here.is))
 
 pub overflow_add-count : goal.overflow_add-count
-overflow_add-count c = omega (arith, (let l = (c.feature_at.ensures.at_value, c.feature_at.ensures.lies) in stands _ _ l.0 l.1 c.in-Here.is), c.loop-feature.invariant.0)
+overflow_add-count c = omega (arith, (stands _ _ c.feature_at.ensures.at_value c.feature_at.ensures.lies c.in-Here.is), c.loop-feature.invariant.0)
 
 pub loop-feature-smaller : goal.loop-feature-smaller
-loop-feature-smaller c = omega (arith, (let l = (c.feature_at.ensures.at_value, c.feature_at.ensures.lies) in stands _ _ l.0 l.1 c.in-Here.is), c.after_part-at.ensures)
+loop-feature-smaller c = omega (arith, (stands _ _ c.feature_at.ensures.at_value c.feature_at.ensures.lies c.in-Here.is), c.after_part-at.ensures)
 
 pub loop-feature-preserved : goal.loop-feature-preserved
-loop-feature-preserved c = let l = (let l = (c.feature_at.ensures.at_value, c.feature_at.ensures.lies) in stands _ _ l.0 l.1 c.in-Here.is) in
+loop-feature-preserved c = let l = (stands _ _ c.feature_at.ensures.at_value c.feature_at.ensures.lies c.in-Here.is) in
     let t = l.turn c.after_part-at.ensures in
     let i = c.loop-feature.invariant in (
       omega (arith, i.0, l, c.after_part-at.ensures),

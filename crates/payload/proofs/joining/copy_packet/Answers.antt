@@ -15,7 +15,8 @@ overflow_add-start c = omega (arith, lying c.args.lent.now c.args.frame c.requir
 pub overflow_add-end : goal.overflow_add-end
 overflow_add-end c = omega (arith, lying c.args.lent.now c.args.frame c.requires.0, c.requires.1)
 
--- gone slice-bounds-put-slice-end: part-put-slice-end c = let b = c.before.before.before.before.before.before in omega (arith, lying b.args.lent.now b.args.frame b.requires.0, b.requires.1)
+pub slice_bounds-put_slice-end : goal.slice_bounds-put_slice-end
+slice_bounds-put_slice-end c = omega (arith, lying c.args.lent.now c.args.frame c.requires.0, c.requires.1)
 
 pub returns : goal.returns
 returns c = let f = c.args.frame in

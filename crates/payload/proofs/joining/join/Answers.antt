@@ -6,12 +6,10 @@ use Rattle.payload.proofs.joining.join.Goals as goal
 
 pub returns-in-Refused : goal.returns-in-Refused
 returns-in-Refused c = let a = c.args in
-    let e = sym c.in
-    let w = -Refused.is ∙ c.measured.ensures in
-    (e, left a.lent.now a.buf.now e) in record { value = w.0; buf_after = w.1 }
+    let e = sym c.in-Refused.is ∙ c.measured.ensures in
+    record { value = e; buf_after = left a.lent.now a.buf.now e }
 
 pub returns-in-Written : goal.returns-in-Written
 returns-in-Written c = let a = c.args in
-    let e = sym c.in
-    let w = -Written.is ∙ c.measured.ensures in
-    (e, filled a.lent.now a.buf.now e c.copy_payload.ensures) in record { value = w.0; buf_after = w.1 }
+    let e = sym c.in-Written.is ∙ c.measured.ensures in
+    record { value = e; buf_after = filled a.lent.now a.buf.now e c.copy_payload.ensures }
