@@ -14,7 +14,7 @@ use Rattle.wire.proofs.Be.{length-be}
 use Rattle.script.specs.Records.{Item, item, cut}
 use Rattle.wire.proofs.Fields.{size_word, size-raw}
 use Rattle.token.specs.Tokens.{us_varchar}
-use Rattle.response.specs.Login.{feature, login_ack, wide, fedauth_info}
+use Rattle.response.specs.Login.{feature, login_ack_token, wide, fedauth_info}
 use Rattle.response.specs.Routing.{target, plain_route, database_route}
 use Rattle.response.specs.declared.Acknowledgement.{Acknowledgement}
 use Rattle.response.specs.declared.Acknowledgement.TheVariants.{IsEnabled, Missing}
@@ -70,8 +70,8 @@ error-size m = simp (size_word, size-raw, size-nil, length-be) (omega arith)
 pub info-size : (sts spn : List ℕ) → length (flat (fedauth_info sts spn)) ≡ 27 + length sts + length spn
 info-size sts spn = simp (size_word, size-raw, size-nil) (omega arith)
 
-pub login-ack-size : length login_ack ≡ 90
-unfolding login_ack wide flat le be
+pub login-ack-size : length login_ack_token ≡ 90
+unfolding login_ack_token wide flat le be
 login-ack-size = refl
 
 -- the acknowledgement of features
@@ -98,7 +98,7 @@ acks-size true ack = add-zero _
 acks-size false ack = zero-add _
 
 tokens-size : (host : List ℕ) (port : ℕ) (rs : List Item) (login : Bool) (ack : Acknowledgement) (before : Bool)
-    → length (routing_tokens host port rs login ack before) ≡ length (cond login login_ack []) + length (routing_ack ack) + all_sizes (route_size host) rs + 13
+    → length (routing_tokens host port rs login ack before) ≡ length (cond login login_ack_token []) + length (routing_ack ack) + all_sizes (route_size host) rs + 13
 unfolding routing_tokens
 tokens-size host port rs login ack before =
     simp (length-append, size-done) (omega (arith, acks-size before (routing_ack ack), routes-size host port rs))
@@ -112,6 +112,6 @@ pub challenge-same : (sts spn : List ℕ) (n : ℕ) → n ≡ capped (length (fl
 challenge-same sts spn n e = rw (length-append (feature_ack (0x02 ∷ [])) (flat (fedauth_info sts spn)), fedauth-ack-size) (omega arith)
 
 pub routed-same : (host : List ℕ) (port : ℕ) (rs : List Item) (login : Bool) (ack : Acknowledgement) (before : Bool) {m : ℕ} (n : ℕ)
-    → m ≡ length (cond login login_ack []) + length (routing_ack ack) → n ≡ capped (all_sizes (route_size host) rs)
+    → m ≡ length (cond login login_ack_token []) + length (routing_ack ack) → n ≡ capped (all_sizes (route_size host) rs)
     → Same (8 + m + n + 13) (8 + length (routing_tokens host port rs login ack before))
 routed-same host port rs login ack before n q e = rw (tokens-size host port rs login ack before) (omega arith)

@@ -53,8 +53,8 @@ packet_size = wide (0x34 ∷ 0x30 ∷ 0x39 ∷ 0x36 ∷ [])
 
 -- LOGINACK of interface 1, TDS version 7.4 (big-endian) and program version 16.0.0; ENVCHANGEs of the collation, as the
 -- Rust writes its bytes, of the database and of the packet size
-unfoldable pub login_ack : List ℕ
-login_ack =
+unfoldable pub login_ack_token : List ℕ
+login_ack_token =
     flat
     (word 1 0xAD ∷ counted 2 (word 1 0x01 ∷ raw (be 4 0x74000004) ∷ b_varchar program (word 1 16 ∷ word 1 0 ∷ word 2 0 ∷ []))
     (env_change (word 1 7 ∷ word 1 5 ∷ word 4 0x09040000 ∷ word 1 0xD0 ∷ word 1 0 ∷ [])

@@ -12,7 +12,7 @@ use Rattle.response.specs.declared.Acknowledgement.{Acknowledgement}
 use Rattle.response.specs.declared.Acknowledgement.TheVariants.{IsEnabled, Missing}
 use Rattle.response.specs.Answer.{Reply, reply, first_of}
 use Rattle.text.specs.Arguments.{text_fault}
-use Rattle.response.specs.Login.{env_change, prelogin, login_ack, fedauth_info}
+use Rattle.response.specs.Login.{env_change, prelogin, login_ack_token, fedauth_info}
 use Rattle.response.specs.Routing.{plain_route, database_route}
 use Rattle.response.specs.Lists.{routes_fault, routes_bytes, features_fault, feature_ext_ack}
 
@@ -47,7 +47,7 @@ unfoldable pub fedauth_info_reply : List ℕ → List ℕ → Reply
 fedauth_info_reply sts spn = reply (first_of (text_fault sts ∷ text_fault spn ∷ [])) (flat (fedauth_info sts spn))
 
 unfoldable pub login_ack_reply : Reply
-login_ack_reply = reply 0 login_ack
+login_ack_reply = reply 0 login_ack_token
 
 -- every DONE has CurCmd C1, SELECT
 unfoldable pub done_reply : ℕ → ℕ → Reply
@@ -108,7 +108,7 @@ routing_ack Missing = []
 -- or after them, DONE
 unfoldable pub routing_tokens : List ℕ → ℕ → List Item → Bool → Acknowledgement → Bool → List ℕ
 routing_tokens host port routes login ack before =
-    cond login login_ack [] ++ cond before (routing_ack ack) [] ++ routes_bytes host port routes
+    cond login login_ack_token [] ++ cond before (routing_ack ack) [] ++ routes_bytes host port routes
     ++ cond (not before) (routing_ack ack) [] ++ token_bytes (done 0x0000 0xC1 0)
 
 unfoldable pub routing_login_reply : List ℕ → ℕ → List Item → Bool → Acknowledgement → Bool → Reply

@@ -5,7 +5,7 @@ ghost use Rattle.script.specs.Records.{records};
 ghost use Rattle.response.specs.Answer.{first_of, refusal_of};
 ghost use Rattle.text.specs.Arguments.{text_fault};
 ghost use Rattle.token.specs.Names.{name_fault};
-ghost use Rattle.response.specs.Login.{login_ack, fedauth_info};
+ghost use Rattle.response.specs.Login.{login_ack_token, fedauth_info};
 ghost use Rattle.response.specs.Lists.{route_fault, routes_fault, feature_fault, features_fault};
 ghost use Rattle.response.specs.Inner.{capped, route_size, feature_size, all_sizes, measured};
 ghost use Rattle.response.specs.Replies.{routing_ack};
@@ -241,7 +241,7 @@ fn routing_ack_size(ack: Acknowledgement) -> usize
 
 // The size of the acknowledgements that a login which is routed gets, wherever they stand.
 pub(crate) fn login_size(login_ack: bool, ack: Acknowledgement) -> usize
-    ensures { (result ≡ length (cond login_ack login_ack []) + length (routing_ack ack)) × (result ≤ 98) }
+    ensures { (result ≡ length (cond login_ack login_ack_token []) + length (routing_ack ack)) × (result ≤ 98) }
 {
     let routing = routing_ack_size(ack);
     if login_ack {

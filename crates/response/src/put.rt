@@ -5,7 +5,7 @@ ghost use Rattle.wire.specs.Be.{be};
 ghost use Rattle.wire.specs.Fields.{flat, word, raw};
 ghost use Rattle.wire.specs.Over.{Wrote};
 ghost use Rattle.script.specs.Records.{records};
-ghost use Rattle.response.specs.Login.{login_ack, feature, info_option, info_options, fedauth_info};
+ghost use Rattle.response.specs.Login.{login_ack_token, feature, info_option, info_options, fedauth_info};
 ghost use Rattle.response.specs.Routing.{target, plain_route, database_route};
 ghost use Rattle.response.specs.Lists.{route_bytes, routes_bytes, features_bytes, feature_ext_ack};
 ghost use Rattle.response.specs.Replies.{error_fields, routing_ack, routing_tokens};
@@ -227,7 +227,7 @@ pub(crate) const LOGIN_ACK: [u8; 90] =
 
 // The login's acknowledgement, where it is sent.
 fn put_login_ack(buf: &mut [u8], at: usize, sent: bool) -> usize
-    ensures { Wrote buf.old at (cond sent login_ack []) buf.new result }
+    ensures { Wrote buf.old at (cond sent login_ack_token []) buf.new result }
 {
     if sent {
         return wire::put_slice(buf, at, &LOGIN_ACK);

@@ -1,0 +1,44 @@
+-- `capture_marks::put_marks` meets its contract. The loop's invariant is `Marking`. Assumes nothing.
+-- the record at the place, and where it lies
+use Prim.Native.Nat.{ℕ, ◌+◌, ◌-◌, ◌≤◌}
+use mathlib.Core.Path.{◌≡◌, sym, ◌∙◌}
+use mathlib.Core.List.{List}
+use lib.ListN.{length}
+use native.Mathlib.Omega.{arith}
+use borrow.Author.Rules.{rules}
+use borrow.Enum.Refused.{opened}
+use Rattle.script.specs.Records.{record_at}
+use Rattle.script.specs.declared.Found.TheVariants.{Record}
+use Rattle.script.proofs.Walk
+use Rattle.script.proofs.Stops.{stops}
+use Rattle.capture_marks.proofs.Marking.{Marking, marking-start, marking-all, marking-cut, marking-end, marking-room, marking-next}
+use Rattle.capture_marks.proofs.put_marks.Goals as goal
+
+pub loop-count-init : goal.loop-count-init
+loop-count-init c = marking-start _ _
+
+pub returns-in-Cut : goal.returns-in-Cut
+returns-in-Cut c = let m = c.loop-count.invariant in
+    stops c.record_at.ensures (opened c.in-Cut.in-Cut-own.keys1) (marking-cut _ _ _ _ _ _ m) (marking-end _ _ _ _ _ _ m)
+
+pub overflow_add-at : goal.overflow_add-at
+overflow_add-at c = omega (arith, (Walk.lies c.args.capture.now c.loop-count.at (sym c.record_at.ensures ∙ c.in-Record.is)))
+
+pub slice_bounds-put_mark-start : goal.slice_bounds-put_mark-start
+slice_bounds-put_mark-start c = omega (arith, (Walk.lies c.args.capture.now c.loop-count.at (sym c.record_at.ensures ∙ c.in-Record.is)))
+
+pub slice_bounds-put_mark-end : goal.slice_bounds-put_mark-end
+slice_bounds-put_mark-end c = omega (arith, (Walk.lies c.args.capture.now c.loop-count.at (sym c.record_at.ensures ∙ c.in-Record.is)))
+
+pub put_mark-count-requires : goal.put_mark-count-requires
+put_mark-count-requires c = let pre = c.requires in
+    marking-room _ _ _ _ _ _ c.loop-count.invariant (sym c.record_at.ensures ∙ c.in-Record.is) (omega (arith, pre))
+
+pub loop-count-smaller : goal.loop-count-smaller
+loop-count-smaller c = omega (arith, (Walk.lies c.args.capture.now c.loop-count.at (sym c.record_at.ensures ∙ c.in-Record.is)))
+
+pub loop-count-preserved : goal.loop-count-preserved
+loop-count-preserved c = marking-next _ _ _ _ _ _ c.loop-count.invariant (sym c.record_at.ensures ∙ c.in-Record.is) c.put_mark-count.ensures.value c.put_mark-count.ensures.out_after
+
+pub returns : goal.returns
+returns c = marking-all _ _ _ _ _ _ c.loop-count.invariant (omega (arith, c.requires, c.loop-count-test.false))

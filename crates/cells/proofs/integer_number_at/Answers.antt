@@ -1,0 +1,17 @@
+-- `cells::integer_number_at` meets its contract. Assumes nothing.
+use Rattle.cells.proofs.CodeTypes.{width-last}
+use borrow.Author.Rules.{rules}
+use Rattle.cells.proofs.integer_number_at.Goals as goal
+
+pub returns-in-1 : goal.returns-in-1
+returns-in-1 c = rw c.in-1.is c.u8_at.ensures
+
+pub returns-in-2 : goal.returns-in-2
+returns-in-2 c = rw c.in-2.is c.u16_at.ensures
+
+pub returns-in-4 : goal.returns-in-4
+returns-in-4 c = rw c.in-4.is c.u32_at.ensures
+
+pub returns-in_default : goal.returns-in_default
+returns-in_default c = let m = c.in_default.in_default-own.rest in
+    rw (width-last c.args.width c.requires m.0.0.1 m.0.1 m.1) c.u64_at.ensures

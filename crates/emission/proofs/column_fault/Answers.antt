@@ -1,0 +1,19 @@
+-- `emission::column_fault` meets its contract. Assumes nothing.
+use mathlib.Core.Path.{refl, sym, ap, ◌∙◌}
+use Rattle.token.specs.Names.{name_fault}
+use Rattle.emission.specs.Emission.{column_token}
+use Rattle.emission.specs.Refusal.{fault_in}
+use Rattle.emission.proofs.Sizes.{fault-one}
+use Rattle.emission.proofs.Values.{column-known, column-unknown}
+use borrow.Author.Rules.{rules}
+use Rattle.emission.proofs.column_fault.Goals as goal
+
+pub returns-in-Known : goal.returns-in-Known
+returns-in-Known c = let p = c.args.p.now in
+    rw (column-known p c.get_u8.ensures c.data_type_of.ensures c.in-Known.is)
+    (c.name_fault.ensures ∙ ap name_fault c.rest_after.ensures ∙ sym (fault-one (column_token c.in-Known.field-0 p)))
+
+pub returns-in-Unknown : goal.returns-in-Unknown
+unfolding fault_in
+returns-in-Unknown c = let p = c.args.p.now in
+    rw (column-unknown p c.get_u8.ensures c.data_type_of.ensures c.in-Unknown.is)

@@ -1,0 +1,34 @@
+-- `emission::emitted_size` meets its contract. Assumes nothing.
+-- the first record, and where it lies
+use mathlib.Core.Path.{◌≡◌, sym, ◌∙◌}
+use native.Mathlib.Omega.{arith}
+use Prim.Native.Nat.{ℕ, ◌+◌, ◌≤◌}
+use lib.ListN.{length}
+use mathlib.Core.List.{List}
+use borrow.Enum.Refused.{opened}
+use Rattle.script.specs.declared.Found.TheVariants.{Record}
+use Rattle.script.specs.Records.{record_at}
+use Rattle.script.proofs.Walk
+use Rattle.script.proofs.Stops.{stops}
+use Rattle.emission.proofs.Replies.{sizes-first, sizes-none, walked-cut, walked_end}
+use borrow.Author.Rules.{rules}
+use Rattle.emission.proofs.emitted_size.Goals as goal
+
+pub overflow_add-next : goal.overflow_add-next
+overflow_add-next c = omega (arith, (Walk.lies c.args.s.now 0 (sym c.record_at.ensures ∙ c.in-Record.is)))
+
+pub slice_bounds-reply_size-start : goal.slice_bounds-reply_size-start
+slice_bounds-reply_size-start c = omega (arith, (Walk.lies c.args.s.now 0 (sym c.record_at.ensures ∙ c.in-Record.is)))
+
+pub slice_bounds-reply_size-end : goal.slice_bounds-reply_size-end
+slice_bounds-reply_size-end c = omega (arith, (Walk.lies c.args.s.now 0 (sym c.record_at.ensures ∙ c.in-Record.is)))
+
+pub reply_size-requires : goal.reply_size-requires
+reply_size-requires c = (Walk.lies c.args.s.now 0 (sym c.record_at.ensures ∙ c.in-Record.is)).1
+
+pub returns-in-Record : goal.returns-in-Record
+returns-in-Record c = sizes-first c.args.s.now _ c.in-Record.start c.in-Record.len c.reply_size.result (sym c.record_at.ensures ∙ c.in-Record.is) c.reply_size.ensures
+
+pub returns-in-Cut : goal.returns-in-Cut
+returns-in-Cut c = let s = c.args.s.now in
+    sizes-none s (stops c.record_at.ensures (opened c.in-Cut.in-Cut-own.keys2) (walked-cut s) (walked_end s))

@@ -1,0 +1,35 @@
+-- `response::cut_payload` meets its contract. Assumes nothing.
+-- a size that can be agreed
+use mathlib.Core.Path.{◌≡◌, sym, ◌∙◌}
+use mathlib.Core.Bool.{true}
+use Prim.Native.Nat.{◌≤◌}
+use native.Mathlib.Omega.{arith}
+use borrow.Author.Tests.{not-true, not-false}
+use Rattle.packet.specs.Agreed.{is_packet_size}
+use Rattle.packet.proofs.Counts.{size-bounds}
+use Rattle.response.proofs.InPackets.{wrong_size, too_long, too_short, written}
+use borrow.Author.Rules.{rules}
+use Rattle.wire.proofs.Over.{wrote}
+use Rattle.response.proofs.cut_payload.Goals as goal
+
+pub returns-then-not-is_packet_size : goal.returns-then-not-is_packet_size
+returns-then-not-is_packet_size c = let a = c.args in
+    let w = wrong_size a.size a.payload.now a.buf.now (sym c.is_packet_size.ensures ∙ c.if-not-is_packet_size.true) in record { value = w.0; buf_after = w.1 }
+
+pub returns-then-payload-gt-MOST_PAYLOAD : goal.returns-then-payload-gt-MOST_PAYLOAD
+returns-then-payload-gt-MOST_PAYLOAD c = let a = c.args in
+    let w = too_long a.size a.payload.now a.buf.now (sym c.is_packet_size.ensures ∙ c.if-not-is_packet_size.false) c.if-payload-gt-MOST_PAYLOAD.true in record { value = w.0; buf_after = w.1 }
+
+pub overflow_cast-size : goal.overflow_cast-size
+overflow_cast-size c = let h = (size-bounds c.args.size (sym c.is_packet_size.ensures ∙ c.if-not-is_packet_size.false)) in search rules
+
+pub returns-then-buf-total : goal.returns-then-buf-total
+returns-then-buf-total c = let a = c.args in
+    let w = too_short a.size a.payload.now a.buf.now (sym c.is_packet_size.ensures ∙ c.if-not-is_packet_size.false) (omega arith) _ c.packets_length-total.ensures c.if-buf-total.true in record { value = w.0; buf_after = w.1 }
+
+pub overflow_cast-size-2 : goal.overflow_cast-size-2
+overflow_cast-size-2 c = let h = (size-bounds c.args.size (sym c.is_packet_size.ensures ∙ c.if-not-is_packet_size.false)) in search rules
+
+pub returns : goal.returns
+returns c = let a = c.args in
+    let w = written a.size a.payload.now a.buf.now (sym c.is_packet_size.ensures ∙ c.if-not-is_packet_size.false) (omega arith) _ c.packets_length-total.ensures (omega arith) (wrote c.put_packets.ensures.buf_after c.put_packets.ensures.place_after) in record { value = w.0; buf_after = w.1 }

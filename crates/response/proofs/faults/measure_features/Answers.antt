@@ -1,0 +1,41 @@
+-- `response::faults::measure_features` meets its contract. The loop's invariant: the place is in the list, and what is left from it
+-- on refuses as the whole list does and has the size that the whole has more than the size so far, as far as it counts.
+-- Assumes nothing.
+use Rattle.script.proofs.Walk.{lies}
+use Rattle.response.proofs.Measuring.{Measuring, measuring, measured-cut, measured-end, measured-bad, measured-next}
+use Rattle.response.specs.Lists.{feature_fault}
+use Rattle.response.specs.Inner.{feature_size}
+use Prim.Native.Nat.{◌-◌, ◌≤◌}
+use mathlib.Core.Path.{sym, ◌∙◌}
+use lib.ListN.{length}
+use native.Mathlib.Omega.{arith}
+use borrow.Author.Rules.{rules}
+use Rattle.response.proofs.faults.measure_features.Goals as goal
+
+pub loop-kind-init : goal.loop-kind-init
+loop-kind-init c = (search rules, measuring _ _ _)
+
+pub returns-in-Cut : goal.returns-in-Cut
+returns-in-Cut c = measured-cut _ _ _ _ _ c.loop-kind.invariant.1 (sym c.record_at.ensures ∙ c.in-Cut.is)
+
+pub returns-in-End : goal.returns-in-End
+returns-in-End c = measured-end _ _ _ _ _ c.loop-kind.invariant.1 (sym c.record_at.ensures ∙ c.in-End.is)
+
+pub overflow_add-next : goal.overflow_add-next
+overflow_add-next c = omega (arith, lies _ _ (sym c.record_at.ensures ∙ c.in-Record.is))
+
+pub slice_bounds-payload-start : goal.slice_bounds-payload-start
+slice_bounds-payload-start c = omega (arith, lies _ _ (sym c.record_at.ensures ∙ c.in-Record.is))
+
+pub slice_bounds-payload-end : goal.slice_bounds-payload-end
+slice_bounds-payload-end c = omega (arith, lies _ _ (sym c.record_at.ensures ∙ c.in-Record.is))
+
+pub returns-then-refusal-ne-NONE : goal.returns-then-refusal-ne-NONE
+returns-then-refusal-ne-NONE c = measured-bad _ _ _ _ _ c.loop-kind.invariant.1 _ _ _ _ (sym c.record_at.ensures ∙ c.in-Record.is) c.feature_fault-refusal.ensures c.if-refusal-ne-NONE.true
+
+pub loop-kind-smaller : goal.loop-kind-smaller
+loop-kind-smaller c = omega (arith, lies _ _ (sym c.record_at.ensures ∙ c.in-Record.is))
+
+pub loop-kind-preserved : goal.loop-kind-preserved
+loop-kind-preserved c = let e = sym c.record_at.ensures ∙ c.in-Record.is in
+    ((lies _ _ e).1, measured-next _ _ _ _ _ c.loop-kind.invariant.1 _ _ _ _ e c.feature_fault-refusal.ensures c.feature_size.result c.if-refusal-ne-NONE.false c.feature_size.ensures c.capped-size.ensures)

@@ -1,0 +1,19 @@
+-- `response::faults::measure_features` meets its contract. The loop's invariant: the place is in the list, and what is left from it
+-- on refuses as the whole list does and has the size that the whole has more than the size so far, as far as it counts.
+-- Assumes nothing.
+use Rattle.script.proofs.Walk.{lies}
+use Rattle.response.proofs.Measuring.{Measuring, measuring, measured-cut, measured-end, measured-bad, measured-next}
+use Rattle.response.specs.Lists.{feature_fault}
+use Rattle.response.specs.Inner.{feature_size}
+use Prim.Native.Nat.{◌-◌, ◌≤◌}
+use mathlib.Core.Path.{sym, ◌∙◌}
+use lib.ListN.{length}
+use native.Mathlib.Omega.{arith}
+use borrow.Author.Rules.{rules}
+use Rattle.response.proofs.faults.measure_features.Given as goal
+
+abbrev pub invariant-loop-kind : goal.invariant-loop-kind
+invariant-loop-kind l = (l.at ≤ length l.list) × Measuring feature_fault (λ k p. feature_size p) l.list l.at l.size
+
+abbrev pub decreases-loop-kind : goal.decreases-loop-kind
+decreases-loop-kind l = length l.list - l.at

@@ -1,0 +1,11 @@
+-- `response::faults::texts_fault` meets its contract. Assumes nothing.
+use Rattle.response.proofs.Firsts.{found, passed, last}
+use mathlib.Core.Path.{sym, ◌∙◌}
+use borrow.Author.Rules.{rules}
+use Rattle.response.proofs.faults.texts_fault.Goals as goal
+
+pub returns-then-found-ne-NONE : goal.returns-then-found-ne-NONE
+returns-then-found-ne-NONE c = found _ c.text_fault-found.ensures c.if-found-ne-NONE.true
+
+pub returns : goal.returns
+returns c = c.text_fault.ensures ∙ sym (passed _ c.text_fault-found.ensures c.if-found-ne-NONE.false ∙ last _)

@@ -1,0 +1,18 @@
+-- `response::put::put_routing_ack` meets its contract. Assumes nothing.
+use Rattle.response.proofs.Writing.{nothing}
+use borrow.Author.Tests.{not-true, not-false}
+use Rattle.response.specs.Replies.{feature_ack}
+use Rattle.script.specs.Records.{records, parse}
+use Rattle.wire.specs.Le.{le_at}
+use borrow.Author.Rules.{rules}
+use Rattle.response.proofs.put.put_routing_ack.Goals as goal
+
+pub returns-then-not-sent : goal.returns-then-not-sent
+returns-then-not-sent c = rw c.if-not-sent.true (nothing _ _ c.put_nothing.ensures)
+
+pub returns-in-IsEnabled : goal.returns-in-IsEnabled
+unfolding feature_ack records parse le_at
+returns-in-IsEnabled c = rw (c.if-not-sent.false, c.in-IsEnabled.is) c.put_feature_ext_ack.ensures
+
+pub returns-in-Missing : goal.returns-in-Missing
+returns-in-Missing c = rw (c.if-not-sent.false, c.in-Missing.is) (nothing _ _ c.put_nothing-in-Missing.ensures)
