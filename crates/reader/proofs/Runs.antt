@@ -135,15 +135,15 @@ module _ {l : List ℕ} (g : Headed l) where
   -- from any position
   pub run-from : {pos : Position} {n : ℕ} {ph : Phase} {ts : List (Token EncodedCell)} → Placed l pos n → WF ph ts → Holds src pos n false ph (put_all ts)
       → (k : ℕ) → meaning_of src.bytes (answer_of k l pos) ≡ kth (map states ts) k
-  run-from q (wf-metadata {ts = ts} m w) h k = let f = finds-metadata m h in goes_on_lem ts q h f (λ i. run-from (next-placed f) w (f.holds _) i) k
-  run-from q (wf-column {ts = ts} ok w) h k = let f = finds-column ok h in goes_on_lem ts q h f (λ i. run-from (next-placed f) w (f.holds _) i) k
-  run-from q (wf-row {ts = ts} m w) h k = let f = finds-row m h in goes_on_lem ts q h f (λ i. run-from (next-placed f) w (f.holds _) i) k
-  run-from q (wf-cell {v = v} {ts = ts} ok w) h k = let f = finds-cell g.short v ok h in goes_on_lem ts q h f (λ i. run-from (next-placed f) w (f.holds _) i) k
-  run-from q (wf-message {ts = ts} ok w) h k = let f = finds-message g.short ok h in goes_on_lem ts q h f (λ i. run-from (next-placed f) w (f.holds _) i) k
-  run-from q (wf-done {ts = ts} ok m w) h k =
+  run-from {pos = pos} {n = n} q (wf-metadata {ts = ts} m w) h k = let f = finds-metadata m h in goes_on_lem ts q h f (λ i. run-from {pos = after pos f.found (corner_of ps f.place)} {n = f.place} (next-placed f) w (f.holds _) i) k
+  run-from {pos = pos} {n = n} q (wf-column {ts = ts} ok w) h k = let f = finds-column ok h in goes_on_lem ts q h f (λ i. run-from {pos = after pos f.found (corner_of ps f.place)} {n = f.place} (next-placed f) w (f.holds _) i) k
+  run-from {pos = pos} {n = n} q (wf-row {ts = ts} m w) h k = let f = finds-row m h in goes_on_lem ts q h f (λ i. run-from {pos = after pos f.found (corner_of ps f.place)} {n = f.place} (next-placed f) w (f.holds _) i) k
+  run-from {pos = pos} {n = n} q (wf-cell {v = v} {ts = ts} ok w) h k = let f = finds-cell g.short v ok h in goes_on_lem ts q h f (λ i. run-from {pos = after pos f.found (corner_of ps f.place)} {n = f.place} (next-placed f) w (f.holds _) i) k
+  run-from {pos = pos} {n = n} q (wf-message {ts = ts} ok w) h k = let f = finds-message g.short ok h in goes_on_lem ts q h f (λ i. run-from {pos = after pos f.found (corner_of ps f.place)} {n = f.place} (next-placed f) w (f.holds _) i) k
+  run-from {pos = pos} {n = n} q (wf-done {ts = ts} ok m w) h k =
       let f = finds-done ok h in
-      goes_on_lem ts q h f (λ i. run-from (next-placed f) w (rw m at (f.holds (corner_of ps f.place))) i) k
-  run-from q (wf-last ok m) h k =
+      goes_on_lem ts q h f (λ i. run-from {pos = after pos f.found (corner_of ps f.place)} {n = f.place} (next-placed f) w (rw m at (f.holds (corner_of ps f.place))) i) k
+  run-from {pos = pos} {n = n} q (wf-last ok m) h k =
       let f = finds-done ok h in
       goes_on_lem [] q h f (λ i. ap (meaning_of src.bytes) (stays (next-placed f) (rw m at (f.holds (corner_of ps f.place))) i)) k
 

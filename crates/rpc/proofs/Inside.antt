@@ -97,7 +97,7 @@ module _ (b : Source) where
   unfolding parameter_at value_at
   parameter-in at =
       then-each (MetadataTo at) _ _ _ (renamed-each _ in_metadata _ (metadata-in at)) (λ m a1 h1.
-      then-each (cells.ValueTo b a1) _ _ _ (renamed-each _ in_value _ (cells.cell_in b m.info.code m.info.limit a1)) (λ v a2 h2.
+      then-each (cells.ValueTo b a1) _ _ _ (renamed-each _ in_value _ (cells.cell_in_lem b m.info.code m.info.limit a1)) (λ v a2 h2.
       got ((omega arith, h2.0.1), (h1.1, h1.2, h2.1))))
 
   -- a parameter that is read moves on

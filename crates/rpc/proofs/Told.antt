@@ -29,28 +29,28 @@ procedure_of (procedure.Whole p to) = whole p to
 procedure_of (procedure.Refused n) = refused n
 
 pub procedure-told : (x : Read Procedure) {r s : ProcedureRead} → r ≡ procedure_read x → r ≡ s → x ≡ procedure_of s
-procedure-told = told-by procedure_read procedure_of (λ x. elim x [ whole p to ↦ refl | refused n ↦ refl ])
+procedure-told = told-by procedure_read procedure_of (λ x. elim x as (λ y. procedure_of (procedure_read y) ≡ y) [ whole p to ↦ refl | refused n ↦ refl ])
 
 abbrev head_of : HeadRead → Read Head
 head_of (head.Whole h to) = whole h to
 head_of (head.Refused n) = refused n
 
 pub head-told : (x : Read Head) {r s : HeadRead} → r ≡ head_read x → r ≡ s → x ≡ head_of s
-head-told = told-by head_read head_of (λ x. elim x [ whole h to ↦ refl | refused n ↦ refl ])
+head-told = told-by head_read head_of (λ x. elim x as (λ y. head_of (head_read y) ≡ y) [ whole h to ↦ refl | refused n ↦ refl ])
 
 abbrev metadata_of : MetadataRead → Read Metadata
 metadata_of (metadata.Whole m to) = whole m to
 metadata_of (metadata.Refused n) = refused n
 
 pub metadata-told : (x : Read Metadata) {r s : MetadataRead} → r ≡ metadata_read x → r ≡ s → x ≡ metadata_of s
-metadata-told = told-by metadata_read metadata_of (λ x. elim x [ whole m to ↦ refl | refused n ↦ refl ])
+metadata-told = told-by metadata_read metadata_of (λ x. elim x as (λ y. metadata_of (metadata_read y) ≡ y) [ whole m to ↦ refl | refused n ↦ refl ])
 
 abbrev parameter_of : ParameterRead → Read Parameter
 parameter_of (parameter.Whole p) = whole p.parameter p.next
 parameter_of (parameter.Refused n) = refused n
 
 pub parameter-told : (x : Read Parameter) {r s : ParameterRead} → r ≡ parameter_read x → r ≡ s → x ≡ parameter_of s
-parameter-told = told-by parameter_read parameter_of (λ x. elim x [ whole p to ↦ refl | refused n ↦ refl ])
+parameter-told = told-by parameter_read parameter_of (λ x. elim x as (λ y. parameter_of (parameter_read y) ≡ y) [ whole p to ↦ refl | refused n ↦ refl ])
 
 -- ---- refusals under another name
 

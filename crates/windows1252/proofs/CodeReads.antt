@@ -90,12 +90,12 @@ module _ (v : List ℕ) {frame : Frame} (b : frame ≡ body_frame (length v)) {r
       unfolding max_at
       chunks-cut h =
           sym (ap size_of (read_by v (number-got 8 (body_source v) 0 _ total-read f ∙ if-not _ _ (ne_eqb _ _ q) ∙ must-hold _ _ (either_true (even m.value))
-          ∙ then-not _ (chunks-is-not _ _ _ chunks-read h))))
+          ∙ then-not _ (chunks-is-not (body_source v) _ _ chunks-read h))))
 
       pub text-read : {n : ChunksAt} {a : Label} → k ≡ chunks.Whole n → a ≡ text_at (length v) n.next n.count → a ≡ size_of (read_of v)
       unfolding max_at chunks_joined
       text-read {n} h w =
-          let is = chunks-is _ _ _ chunks-read h in
+          let is = chunks-is (body_source v) _ _ chunks-read h in
           let eight = number-next 8 (body_source v) 0 total-read f in
           w ∙ text-size v n.part n.next (rw eight at is.1)
           ∙ sym (ap size_of (read_by v (number-got 8 (body_source v) 0 _ total-read f ∙ if-not _ _ (ne_eqb _ _ q) ∙ must-hold _ _ (either_true (even m.value))

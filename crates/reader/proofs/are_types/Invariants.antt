@@ -1,0 +1,14 @@
+-- `reader::are_types` meets its contract. Assumes nothing.
+use mathlib.Core.Path.{◌≡◌, refl, sym, ap, ◌∙◌}
+use native.Mathlib.Omega.{arith}
+use Prim.Native.Nat.{◌-◌, ◌≤◌}
+use Rattle.reader.proofs.CodePositions.{held_next, held-past}
+use Rattle.reader.specs.Positions.{held}
+use borrow.Author.Rules.{rules}
+use Rattle.reader.proofs.are_types.Given as goal
+
+abbrev pub invariant-loop-i : goal.invariant-loop-i
+invariant-loop-i l = (l.i ≤ l.n) × (l.n ≤ 128) × (l.all ≡ held l.i l.types l.limits)
+
+abbrev pub decreases-loop-i : goal.decreases-loop-i
+decreases-loop-i l = l.n - l.i

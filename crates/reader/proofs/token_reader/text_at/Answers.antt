@@ -1,0 +1,24 @@
+-- `reader::token_reader::text_at` meets its contract. Assumes nothing.
+use mathlib.Core.Path.{sym, ap, ◌∙◌}
+use native.Mathlib.Omega.{arith}
+use borrow.Author.Tests.{not-true, not-false}
+use Rattle.payload.proofs.CodeReads.{number-got, number-not, must-hold, must-not, below}
+use Rattle.payload.specs.Answers.{part_read}
+use Rattle.reader.specs.ReadTokens.{text_at}
+use borrow.Author.Rules.{rules}
+use Rattle.reader.proofs.token_reader.text_at.Goals as goal
+
+pub returns-in-Refused : goal.returns-in-Refused
+unfolding text_at
+returns-in-Refused c = sym (ap part_read (number-not _ _ _ _ c.units_at.ensures.0 c.in-Refused.is))
+
+pub overflow_mul-len : goal.overflow_mul-len
+overflow_mul-len c = omega (arith, below 2 c.units_at.ensures.1 c.in-Whole.is)
+
+pub returns-then-not-leaves : goal.returns-then-not-leaves
+unfolding text_at
+returns-then-not-leaves c = sym (ap part_read (number-got _ _ _ _ c.units_at.ensures.0 c.in-Whole.is ∙ must-not _ _ (sym c.leaves.ensures ∙ c.if-not-leaves.true)))
+
+pub returns : goal.returns
+unfolding text_at
+returns c = c.part_at.ensures ∙ sym (ap part_read (number-got _ _ _ _ c.units_at.ensures.0 c.in-Whole.is ∙ must-hold _ _ (sym c.leaves.ensures ∙ c.if-not-leaves.false)))

@@ -1,0 +1,36 @@
+-- `result::room_in_packets` meets its contract. Assumes nothing.
+-- a script of a length
+use mathlib.Core.Path.{◌≡◌, sym, ◌∙◌}
+use mathlib.Core.Bool.{true}
+use mathlib.Core.List.{List, []}
+use Prim.Native.Nat.{ℕ}
+use borrow.Author.Tests.{not-true, not-false}
+use Rattle.packet.specs.Agreed.{is_packet_size}
+use Rattle.packet.proofs.Counts.{size-bounds}
+use Rattle.emission.specs.declared.Measure.TheVariants.{Size}
+use Rattle.emission.specs.Length.{measure_of}
+use Rattle.result.proofs.InPackets
+use borrow.Author.Rules.{rules}
+use Rattle.result.proofs.room_in_packets.Goals as goal
+
+pub returns-then-not-is_packet_size : goal.returns-then-not-is_packet_size
+returns-then-not-is_packet_size c = let a = c.args in
+    InPackets.wrong-room a.size a.script.now [] (sym c.is_packet_size.ensures ∙ c.if-not-is_packet_size.true)
+
+pub overflow_cast-size : goal.overflow_cast-size
+overflow_cast-size c = let b = size-bounds c.args.size (sym c.is_packet_size.ensures ∙ c.if-not-is_packet_size.false) in search rules
+
+pub overflow_sub-length : goal.overflow_sub-length
+overflow_sub-length c = let b = InPackets.least_size c.args.size c.args.script.now [] (sym c.is_packet_size.ensures ∙ c.if-not-is_packet_size.false) _ (sym c.reply_length.ensures ∙ c.in-Size.is) in search rules
+
+pub overflow_cast-length : goal.overflow_cast-length
+overflow_cast-length c = let b = InPackets.most-size c.args.size c.args.script.now [] (sym c.is_packet_size.ensures ∙ c.if-not-is_packet_size.false) _ (sym c.reply_length.ensures ∙ c.in-Size.is) in search rules
+
+pub returns-in-Refused : goal.returns-in-Refused
+returns-in-Refused c = let a = c.args in
+    InPackets.refused-room a.size a.script.now []
+    (sym c.is_packet_size.ensures ∙ c.if-not-is_packet_size.false) _
+    (sym c.reply_length.ensures ∙ c.in-Refused.is)
+
+pub returns-in-Size : goal.returns-in-Size
+returns-in-Size c = InPackets.room-sum c.args.size c.args.script.now [] (sym c.is_packet_size.ensures ∙ c.if-not-is_packet_size.false) _ (sym c.reply_length.ensures ∙ c.in-Size.is) c.packets_length.ensures

@@ -1,0 +1,6 @@
+-- `rpc::part_to` meets its contract. Assumes nothing.
+use borrow.Author.Rules.{rules}
+use Rattle.rpc.proofs.part_to.Goals as goal
+
+pub returns : goal.returns
+returns c = rw c.minus.ensures
