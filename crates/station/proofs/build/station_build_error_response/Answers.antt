@@ -1,0 +1,10 @@
+-- `station::build::station_build_error_response` meets its contract. Assumes nothing.
+use Rattle.station.proofs.Builds.{fits, built}
+use borrow.Author.Rules.{rules}
+use Rattle.station.proofs.build.station_build_error_response.Goals as goal
+
+pub tell-requires : goal.tell-requires
+tell-requires c = fits _ _ c.build_error_response.ensures.value
+
+pub returns : goal.returns
+returns c = let w = built _ _ c.tell.type_inv (c.build_error_response.ensures.value, c.build_error_response.ensures.buf_after) c.tell.ensures in record { value = w.0; buf_after = w.1 }

@@ -1,0 +1,10 @@
+-- `station::build::station_build_prelogin_response_with_fedauth` meets its contract. Assumes nothing.
+use Rattle.station.proofs.Builds.{fits, built}
+use borrow.Author.Rules.{rules}
+use Rattle.station.proofs.build.station_build_prelogin_response_with_fedauth.Goals as goal
+
+pub tell-requires : goal.tell-requires
+tell-requires c = fits _ _ c.build_prelogin_response_with_fedauth.ensures.value
+
+pub returns : goal.returns
+returns c = let w = built _ _ c.tell.type_inv (c.build_prelogin_response_with_fedauth.ensures.value, c.build_prelogin_response_with_fedauth.ensures.buf_after) c.tell.ensures in record { value = w.0; buf_after = w.1 }

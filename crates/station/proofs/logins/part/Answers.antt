@@ -1,0 +1,6 @@
+-- `station::logins::part` meets its contract. Assumes nothing.
+use borrow.Author.Rules.{rules}
+use Rattle.station.proofs.logins.part.Goals as goal
+
+pub returns-in-Missing : goal.returns-in-Missing
+returns-in-Missing c = rw c.in-Missing.is

@@ -1,0 +1,17 @@
+-- `station::steps::are_types` meets its contract. Assumes nothing.
+use mathlib.Core.Path.{◌≡◌, refl, sym, ap, ◌∙◌}
+use native.Mathlib.Omega.{arith}
+use mathlib.Core.Bool.{true}
+use Prim.Native.Nat.{◌-◌, ◌≤◌}
+use lib.ListN.{length}
+use borrow.Author.Tests.{not-true, not-false}
+use Rattle.reader.specs.Positions.{held}
+use Rattle.station.proofs.Stepping.{held_to, held-turn, held-fails, held-short, held-over}
+use borrow.Author.Rules.{rules}
+use Rattle.station.proofs.steps.are_types.Given as goal
+
+abbrev pub invariant-loop-i : goal.invariant-loop-i
+invariant-loop-i l = (l.i ≤ l.n) × (l.n ≤ 128) × (l.n ≤ length l.slots - 6) × (held_to l.slots l.i ≡ true)
+
+abbrev pub decreases-loop-i : goal.decreases-loop-i
+decreases-loop-i l = l.n - l.i
