@@ -1,7 +1,6 @@
 -- A marked record has ten bytes or more, so a tenth of a capture's bytes are slots enough. Assumes nothing.
-use Prim.Native.Nat.{ℕ, zero, suc, ◌+◌, ◌*◌, ◌/◌, ◌≤◌}
-use mathlib.Core.Path.{◌≡◌, refl, sym}
-use mathlib.Core.List.{List, [], ◌∷◌, ◌++◌}
+use Prim.Native.Nat.{ℕ, zero, suc, ◌+◌, ◌*◌, ◌≤◌}
+use mathlib.Core.List.{List, [], ◌∷◌}
 use native.Mathlib.Nat.{le_of_suc-le-suc, not-suc-le-zero}
 use native.Mathlib.Omega.{arith}
 use lib.Dec.{eqb, leb}
@@ -10,7 +9,7 @@ use lib.Seq.{length-take-le}
 use borrow.Author.Tests.{leb-true, le-ltb}
 use Rattle.wire.proofs.Cases.{by-test}
 use Rattle.wire.specs.Le.{le_at}
-use Rattle.script.specs.Records.{item, cut, parse, records}
+use Rattle.script.specs.Records.{parse, records}
 use Rattle.capture_marks.specs.Marks.{is_marked, capture_fault, mark_of, marks_from, marks_of, counted_of, marks_in}
 use Rattle.capture_marks.specs.Enough.{TenBytesEach, TenthEnough}
 use Rattle.capture_marks.proofs.Exactly.{marked-cannot}

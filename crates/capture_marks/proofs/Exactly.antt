@@ -1,6 +1,6 @@
 -- The marks of a capture rise and are exactly the numbers of the records whose headers length cannot be. Assumes nothing.
-use Prim.Native.Nat.{ℕ, zero, suc, ◌+◌, ◌<◌}
-use mathlib.Core.Path.{◌≡◌, refl, sym}
+use Prim.Native.Nat.{ℕ, zero, suc, ◌+◌}
+use mathlib.Core.Path.{◌≡◌, refl}
 use mathlib.Core.Bool.{true, false}
 use mathlib.Core.Logic.{inl, inr, ∥∥₁_elim}
 use mathlib.Core.HLevel.{⊥_prop, ×_prop}

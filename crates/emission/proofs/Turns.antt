@@ -2,10 +2,10 @@
 use mathlib.Core.Path.{◌≡◌, refl, sym, ap, ◌∙◌}
 use mathlib.Core.Bool.{cond}
 use mathlib.Core.List.{List, [], ◌∷◌, ◌++◌, flat_map}
-use Prim.Native.Nat.{ℕ, zero, suc, ◌+◌, ◌≤◌}
+use Prim.Native.Nat.{ℕ, ◌+◌, ◌≤◌}
 use native.Mathlib.Omega.{arith}
-use lib.Dec.{eqb, eqb-suc-zero}
-use lib.ListN.{length, drop, length-append}
+use lib.Dec.{eqb}
+use lib.ListN.{length, drop}
 use borrow.Author.Tests.{eqb-true}
 use Rattle.token.proofs.Sizes.{size-done}
 use Rattle.wire.proofs.Cases.{by-test}
@@ -21,7 +21,7 @@ use Rattle.emission.specs.Refusal.{token_fault, fault_in, any_empty}
 use Rattle.emission.specs.Runs.{capped, record_size, record_fault, run_size, run_fault, run_of}
 use Rattle.emission.specs.Inner.{after_done, GoesOn, Turned}
 use Rattle.emission.proofs.Aheads.{past}
-use Rattle.emission.proofs.Sizes.{bytes-none, bytes-told, size-told, size-class, size-nothing, size-cat, size-one, one-fault, fault-one, fault-cat, size-metadata, size-long, cap-both, cap-right, cap-same, cap-of}
+use Rattle.emission.proofs.Sizes.{bytes-none, size-told, size-class, size-nothing, size-cat, size-one, one-fault, fault-one, fault-cat, size-metadata, size-long, cap-both, cap-right, cap-same, cap-of}
 
 -- ---- records that emit nothing by themselves are passed over
 

@@ -1,6 +1,6 @@
 -- What it says of a script's records that they have no misfit (document 01, 'A script fits if ..'): each set's classification
 -- is empty, it has at most 128 columns, and each row has a cell for each of its columns, one at least, of the column's type. Assumes nothing.
-use Prim.Native.Nat.{ℕ, suc, ◌+◌, ◌≤◌, ◌<◌}
+use Prim.Native.Nat.{ℕ, suc, ◌≤◌, ◌<◌}
 use mathlib.Core.Path.{◌≡◌, refl, ◌∙◌}
 use mathlib.Core.Bool.{Bool, true, false, cond, and-eq-true_iff, ◌&&◌}
 use mathlib.Core.Option.{none}

@@ -8,7 +8,6 @@ use borrow.Author.Tests.{le-leb, lt-ltb, le-ltb, eq-eqb, ne_eqb, eqb-true}
 use lib.Dec.{eqb}
 use lib.ListN.{length}
 use Rattle.wire.specs.Fields.{Field, word, raw}
-use Rattle.wire.specs.declared.Part.{Part}
 use Rattle.packet.specs.Status.{has_bit}
 use Rattle.token.specs.Types.{length_width, collation_size}
 use Rattle.token.specs.Tokens as sent

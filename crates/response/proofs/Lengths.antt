@@ -14,11 +14,11 @@ use Rattle.wire.proofs.Be.{length-be}
 use Rattle.script.specs.Records.{Item, item, cut}
 use Rattle.wire.proofs.Fields.{size_word, size-raw}
 use Rattle.token.specs.Tokens.{us_varchar}
-use Rattle.response.specs.Login.{feature, login_ack_token, wide, fedauth_info}
+use Rattle.response.specs.Login.{login_ack_token, wide, fedauth_info}
 use Rattle.response.specs.Routing.{target, plain_route, database_route}
 use Rattle.response.specs.declared.Acknowledgement.{Acknowledgement}
-use Rattle.response.specs.declared.Acknowledgement.TheVariants.{IsEnabled, Missing}
-use Rattle.response.specs.Lists.{all_bytes, route_bytes, routes_bytes, feature_bytes, features_bytes, feature_ext_ack}
+use Rattle.response.specs.declared.Acknowledgement.TheVariants.{IsEnabled}
+use Rattle.response.specs.Lists.{all_bytes, route_bytes, routes_bytes, feature_bytes, feature_ext_ack}
 use Rattle.response.specs.Inner.{capped, route_size, feature_size, all_sizes}
 use Rattle.response.proofs.Ends.{Same}
 use Rattle.response.specs.Replies.{error_fields, feature_ack, routing_ack, routing_tokens}

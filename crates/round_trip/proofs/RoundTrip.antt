@@ -3,7 +3,6 @@
 use mathlib.Core.Path.{◌≡◌, refl, ap}
 use mathlib.Core.Bool.{Bool, true, false, cond}
 use mathlib.Core.List.{List, [], ◌∷◌, ◌++◌}
-use mathlib.Core.Option.{some}
 use Prim.Native.Nat.{ℕ, ◌+◌, ◌≤◌, ◌<◌}
 use native.Mathlib.Omega.{arith}
 use lib.Dec.{eqb, ltb}
@@ -17,7 +16,7 @@ use Rattle.packet.specs.Agreed.{is_packet_size}
 use Rattle.packet.specs.Cut.{packets_of}
 use Rattle.packet.proofs.Sizes.{length-packet}
 use Rattle.packet.proofs.Counts.{size-bounds}
-use Rattle.token.specs.Tokens.{metadata, joined}
+use Rattle.token.specs.Tokens.{metadata}
 use Rattle.script.specs.declared.Stage.TheVariants.{Start}
 use Rattle.script.specs.Records.{Item, item, cut, records}
 use Rattle.script.specs.Verdict.{verdict_from, verdict_of}

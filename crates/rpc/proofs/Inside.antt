@@ -2,7 +2,7 @@
 use mathlib.Core.Path.{◌≡◌, refl}
 use mathlib.Core.Bool.{Bool, true, false, cond}
 use mathlib.Core.List.{List, [], ◌∷◌}
-use Prim.Native.Nat.{ℕ, zero, suc, ◌+◌, ◌-◌, ◌≤◌, ◌<◌}
+use Prim.Native.Nat.{ℕ, zero, suc, ◌+◌, ◌≤◌, ◌<◌}
 use native.Mathlib.Omega.{arith}
 use lib.Dec.{eqb, leb}
 use lib.ListN.{length, drop}
@@ -18,7 +18,6 @@ use Rattle.cells.specs.declared.Value.TheVariants as value
 use Rattle.cells.specs.Inside.{PartIn, ValueIn}
 use Rattle.cells.proofs.Inside as cells
 use Rattle.rpc.specs.declared.Procedure.{Procedure}
-use Rattle.rpc.specs.declared.Procedure.TheVariants.{Number}
 use Rattle.rpc.specs.declared.Head.{Head}
 use Rattle.rpc.specs.declared.Metadata.{Metadata}
 use Rattle.rpc.specs.declared.Parameter.{Parameter}

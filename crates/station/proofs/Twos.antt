@@ -1,13 +1,13 @@
 -- The 64 bits of a number in two's complement, as the code finds them: those of a negative number z are 2^64 - 1 less -1 - z. Assumes nothing.
 use Prim.Native.Nat.{ℕ, suc, ◌-◌, ◌^◌, ◌≤◌}
-use mathlib.Core.Path.{◌≡◌, refl, sym, ap, ◌∙◌, subst}
+use mathlib.Core.Path.{◌≡◌, refl, sym, ap, ◌∙◌}
 use mathlib.Core.Bool.{true, false, false≢true, true≢false}
 use native.Mathlib.Omega.{arith}
 use lib.Dec.{T, leb-zero}
 use lib.IntN.{ℤ, pos, negsuc, nat_abs, ◌-ℤ◌}
 use lib.Signed.{le_z, non_neg}
 use mir.Syntax.{w64}
-use mir.Val.{Fits, SFits, bits, hbits, to_z, of_z}
+use mir.Val.{Fits, SFits, bits, to_z, of_z}
 use mir.Facts.{to_z-of_z}
 use borrow.Author.Tests.{le-ltb}
 use Rattle.station.specs.Steps.{bits_of}

@@ -2,7 +2,6 @@
 use Rattle.std.specs.Prelude.{ℕ, zero, suc, ◌+◌, ◌-◌, ◌*◌, ◌/◌, ◌%◌, ◌^◌, cond, ◌||◌, List, [], ◌∷◌, eqb, leb, ltb, length, get_or, set, replicate, ℤ, pos, negsuc}
 use Rattle.refusals.specs.Numbers.{buffer_too_short}
 use Rattle.wire.specs.Over.{overwrite}
-use Rattle.wire.specs.declared.Part.{Part}
 use Rattle.cells.specs.declared.Value.{Value}
 use Rattle.cells.specs.declared.Value.TheVariants as value
 use Rattle.reader.specs.declared.Answer.{Answer}

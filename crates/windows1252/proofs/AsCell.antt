@@ -1,8 +1,7 @@
 -- A label's bytes are what the cell stands for that it is read as. Assumes nothing.
-use mathlib.Core.Path.{◌≡◌, refl, sym, ap, ◌∙◌}
+use mathlib.Core.Path.{◌≡◌, refl, sym, ◌∙◌}
 use mathlib.Core.Bool.{Bool, true, false, cond, not, ◌||◌}
-use mathlib.Core.List.{List}
-use Prim.Native.Nat.{ℕ, zero, suc, ◌+◌, ◌-◌, ◌≤◌}
+use Prim.Native.Nat.{ℕ, zero, suc, ◌+◌, ◌-◌}
 use native.Mathlib.Omega.{arith}
 use lib.Dec.{eqb, leb}
 use lib.ListN.{length, take, drop, length-drop}
@@ -16,7 +15,7 @@ use Rattle.payload.specs.Places.{Source, Place, Read, whole, refused, number_at,
 use Rattle.cells.specs.declared.Value.{Value}
 use Rattle.cells.specs.declared.Value.TheVariants as cell
 use Rattle.cells.specs.Cells.{is_type, chunk_at, chunks_at, max_at, cell_at}
-use Rattle.cells.specs.Values.{chunk_bytes, joined_from, value_meaning}
+use Rattle.cells.specs.Values.{chunk_bytes, joined_from}
 use Rattle.cells.proofs.Joined.{enough_turns}
 use Rattle.windows1252.specs.Labels.{chunks_joined}
 use Rattle.windows1252.specs.Kept.{AsCell}

@@ -5,7 +5,7 @@ use mathlib.Core.List.{List}
 use Prim.Native.Nat.{ℕ, suc, ◌+◌, ◌*◌, ◌≤◌, ◌<◌}
 use native.Mathlib.Omega.{arith}
 use borrow.Author.Tests.{le-ltb, lt-ltb, leb-true, eq-eqb, ne_eqb}
-use lib.Dec.{eqb, leb, ltb}
+use lib.Dec.{eqb, leb}
 use lib.ListN.{length}
 use Rattle.refusals.specs.Numbers.{inner_wrong, result_too_long, buffer_too_short}
 use Rattle.wire.specs.declared.Part.{Part}
@@ -33,7 +33,7 @@ use Rattle.windows1252.specs.declared.Label.{Label}
 use Rattle.windows1252.specs.declared.Label.TheVariants as label
 use Rattle.windows1252.specs.Table.{text_of}
 use Rattle.windows1252.specs.Labels.{Reading, text, null, not_read, chunks_joined, shown, label_of, wholly, read_of, most_characters}
-use Rattle.windows1252.specs.Answers.{size_of, read_with, buffer_with, read_in, text_left}
+use Rattle.windows1252.specs.Answers.{size_of, read_in, text_left}
 use Rattle.windows1252.specs.Code.{null_at, text_at}
 use Rattle.windows1252.proofs.Texts.{length-text}
 

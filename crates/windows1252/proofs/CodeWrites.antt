@@ -6,18 +6,17 @@ use Prim.Native.Nat.{ℕ, ◌+◌, ◌*◌, ◌/◌, ◌%◌, ◌≤◌, ◌<◌
 use native.Mathlib.Omega.{arith}
 use borrow.Author.Tests.{eq-eqb, ne_eqb, le-leb, lt-leb, le-ltb, lt-ltb, leb-true, eqb-true}
 use lib.Dec.{leb, eqb}
-use lib.ListN.{length, length-append}
+use lib.ListN.{length}
 use Rattle.refusals.specs.Numbers.{odd_text, unit_without_byte, result_too_long, buffer_too_short}
 use Rattle.wire.specs.Le.{le}
 use Rattle.wire.specs.Even.{even}
-use Rattle.wire.specs.Fields.{Field, word, raw, flat}
-use Rattle.wire.specs.Over.{overwrite, Wrote}
+use Rattle.wire.specs.Fields.{word, raw, flat}
+use Rattle.wire.specs.Over.{overwrite}
 use Rattle.wire.proofs.Fields.{flat-cat, size_none, size_word, size-raw}
-use Rattle.wire.proofs.Over.{then, wrote_as}
 use Rattle.wire.proofs.Cases.{by-test, clash}
 use Rattle.text.specs.Units.{units_of}
 use Rattle.text.proofs.Scan.{length-units}
-use Rattle.token.specs.Tokens.{long, put_cell, joined, put_chunks}
+use Rattle.token.specs.Tokens.{joined, put_chunks}
 use Rattle.windows1252.specs.declared.Written.{Written}
 use Rattle.windows1252.specs.declared.Written.TheVariants as written
 use Rattle.windows1252.specs.Table.{have_bytes, bytes_of}

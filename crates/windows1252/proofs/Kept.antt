@@ -1,13 +1,13 @@
 -- A label is kept when it is written and read, and when it is read and written: of the definitions, and of what the calls leave in lent
 -- buffers. Assumes nothing.
 use mathlib.Core.Path.{◌≡◌, refl, sym, ap, ◌∙◌}
-use mathlib.Core.Bool.{Bool, true, false, cond, ◌&&◌}
-use mathlib.Core.List.{List, [], ◌∷◌, ◌++◌, append-nil}
+use mathlib.Core.Bool.{true, false}
+use mathlib.Core.List.{List, [], ◌∷◌, ◌++◌}
 use Prim.Native.Nat.{ℕ, zero, suc, ◌+◌, ◌*◌, ◌/◌, ◌%◌, ◌≤◌, ◌<◌}
 use native.Mathlib.Omega.{arith}
 use borrow.Author.Tests.{eq-eqb, le-leb, le-ltb, lt-ltb, eqb-true}
-use lib.Dec.{eqb, leb, ltb}
-use lib.ListN.{length, take, drop, length-append}
+use lib.Dec.{eqb}
+use lib.ListN.{length, take, drop}
 use lib.Seq.{take_at, drop_at}
 use lib.Arith.{digits_mod, digits_div}
 use Rattle.wire.specs.Le.{le_at, le}
@@ -15,7 +15,7 @@ use Rattle.wire.specs.Even.{even}
 use Rattle.wire.specs.Octets.{Bytes}
 use Rattle.wire.specs.Fields.{word, flat}
 use Rattle.wire.specs.Over.{overwrite}
-use Rattle.wire.proofs.Le.{length-le, le-exact}
+use Rattle.wire.proofs.Le.{length-le}
 use Rattle.wire.proofs.Octets.{bytes_take, bytes_drop, bytes-cat}
 use Rattle.wire.proofs.Over.{over-eq}
 use Rattle.wire.proofs.Cases.{split, by-test, clash}
@@ -30,12 +30,11 @@ use Rattle.windows1252.specs.declared.Written.TheVariants as written
 use Rattle.windows1252.specs.Table.{unit_of, byte_of, has_byte, have_bytes, bytes_of, text_of}
 use Rattle.windows1252.specs.Labels.{Reading, text, null, not_read, chunks_joined, shown, read_of, Writing, value, not_written, one_chunk, value_bytes, encoded, written_of, most_characters}
 use Rattle.windows1252.specs.Answers.{read_with, buffer_with, read_in, text_left, written_with, buffer_after, written_in, value_left}
-use Rattle.windows1252.specs.Code.{fault_by}
 use Rattle.windows1252.specs.Kept.{WriteRead, ReadWrite, WrittenRead, ReadWritten}
 use Rattle.windows1252.proofs.Table.{unit-small, byte-of-unit, unit-of-byte}
 use Rattle.windows1252.proofs.Texts.{length-text, length-bytes, have-both}
 use Rattle.windows1252.proofs.CodeReads.{read_by, read-text}
-use Rattle.windows1252.proofs.CodeWrites.{accepted, joined-one, value-length, value-small}
+use Rattle.windows1252.proofs.CodeWrites.{accepted, joined-one, value-small}
 
 -- ---- bytes to text and back
 

@@ -1,23 +1,20 @@
 -- The text of bytes and the bytes of units: one after another, their lengths, and that each is the other way round. Assumes nothing.
 use mathlib.Core.Path.{◌≡◌, refl, sym, ap, ◌∙◌}
 use mathlib.Core.Bool.{true, false}
-use mathlib.Core.List.{List, [], ◌∷◌, ◌++◌, append-nil, append_assoc}
-use Prim.Native.Nat.{ℕ, zero, suc, ◌+◌, ◌*◌, ◌/◌, ◌%◌, ◌≤◌, ◌<◌}
+use mathlib.Core.List.{List, [], ◌∷◌, ◌++◌, append_assoc}
+use Prim.Native.Nat.{ℕ, suc, ◌+◌, ◌*◌, ◌/◌, ◌%◌, ◌≤◌, ◌<◌}
 use native.Mathlib.Omega.{arith}
 use native.Mathlib.Numerals.{add-one}
 use borrow.Author.Tests.{ne_eqb}
 use lib.ListN.{length, take, drop, get_or, length-append, drop_of_length-le}
 use lib.Seq.{drop-cons}
 use Rattle.wire.specs.Le.{le_at, le}
-use Rattle.wire.specs.Even.{even}
-use Rattle.wire.specs.Octets.{Bytes}
-use Rattle.wire.proofs.Le.{length-le, le-exact}
-use Rattle.text.specs.Units.{units_of}
+use Rattle.wire.proofs.Le.{length-le}
 use Rattle.cells.specs.Values.{joined_from}
 use Rattle.cells.proofs.Joined.{joined-turn, joined_end}
 use Rattle.payload.proofs.CodeReads.{and-true}
 use Rattle.windows1252.specs.Table.{unit_of, byte_of, has_byte, have_bytes, bytes_of, text_of}
-use Rattle.windows1252.proofs.Table.{unit-small, byte-of-unit, unit-of-byte}
+use Rattle.windows1252.proofs.Table.{unit-of-byte}
 
 -- ---- text
 

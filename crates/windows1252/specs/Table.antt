@@ -1,6 +1,6 @@
 -- The characters of Windows-1252 (document 02, 2026-07: the WHATWG Encoding Standard's index windows-1252, with ASCII for bytes below
 -- 0x80). The index has no gaps: bytes 81, 8D, 8F, 90 and 9D stand for U+0081 and so on. Rests on wire's numbers.
-use Rattle.std.specs.Prelude.{ℕ, zero, suc, Bool, true, cond, ◌&&◌, List, [], ◌∷◌, ◌++◌, map, eqb, ltb, get_or}
+use Rattle.std.specs.Prelude.{ℕ, suc, Bool, true, cond, ◌&&◌, List, [], ◌∷◌, ◌++◌, map, eqb, ltb, get_or}
 use Rattle.wire.specs.Le.{le}
 
 -- the character of each byte, as a UTF-16 unit, sixteen to a row

@@ -1,7 +1,6 @@
 -- `capture_marks::is_marked` meets its contract. Assumes nothing.
 use mathlib.Core.Path.{sym, ◌∙◌}
 use Rattle.capture_marks.specs.Marks.{is_marked}
-use borrow.Author.Rules.{rules}
 use Rattle.capture_marks.proofs.is_marked.Goals as goal
 
 pub returns-in-Short : goal.returns-in-Short

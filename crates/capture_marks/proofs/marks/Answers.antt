@@ -1,10 +1,7 @@
 -- `capture_marks::marks` meets its contract. Assumes nothing.
-use mathlib.Core.Path.{◌≡◌, sym, ◌∙◌}
+use mathlib.Core.Path.{sym, ◌∙◌}
 use native.Mathlib.Omega.{arith}
-use Rattle.capture_marks.specs.Marks.{counted_of}
-use Rattle.capture_marks.specs.declared.Marked.TheVariants.{Count}
 use Rattle.capture_marks.proofs.Answers.{count-is, answer-refused, answer-few, answer-marks}
-use borrow.Author.Rules.{rules}
 use Rattle.capture_marks.proofs.marks.Goals as goal
 
 pub returns-then-out-count : goal.returns-then-out-count

@@ -1,11 +1,9 @@
 -- `capture_marks::put_mark` meets its contract. Assumes nothing.
 use mathlib.Core.Path.{◌≡◌, refl, sym, ◌∙◌}
-use mathlib.Core.Bool.{true, false}
+use mathlib.Core.Bool.{false}
 use native.Mathlib.Omega.{arith}
-use borrow.Author.Tests.{not-true, not-false}
 use Rattle.wire.specs.Over.{overwrite}
 use Rattle.capture_marks.specs.Marks.{is_marked}
-use borrow.Author.Rules.{rules}
 use Rattle.capture_marks.proofs.put_mark.Goals as goal
 
 pub returns-then-not-is_marked : goal.returns-then-not-is_marked

@@ -1,17 +1,11 @@
 -- `capture_marks::put_marks` meets its contract. The loop's invariant is `Marking`. Assumes nothing.
 -- the record at the place, and where it lies
-use Prim.Native.Nat.{ℕ, ◌+◌, ◌-◌, ◌≤◌}
-use mathlib.Core.Path.{◌≡◌, sym, ◌∙◌}
-use mathlib.Core.List.{List}
-use lib.ListN.{length}
+use mathlib.Core.Path.{sym, ◌∙◌}
 use native.Mathlib.Omega.{arith}
-use borrow.Author.Rules.{rules}
 use borrow.Enum.Refused.{opened}
-use Rattle.script.specs.Records.{record_at}
-use Rattle.script.specs.declared.Found.TheVariants.{Record}
 use Rattle.script.proofs.Walk
 use Rattle.script.proofs.Stops.{stops}
-use Rattle.capture_marks.proofs.Marking.{Marking, marking-start, marking-all, marking-cut, marking-end, marking-room, marking-next}
+use Rattle.capture_marks.proofs.Marking.{marking-start, marking-all, marking-cut, marking-end, marking-room, marking-next}
 use Rattle.capture_marks.proofs.put_marks.Goals as goal
 
 pub loop-count-init : goal.loop-count-init

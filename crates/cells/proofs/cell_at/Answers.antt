@@ -1,11 +1,10 @@
 -- `cells::cell_at` meets its contract. Assumes nothing.
 use mathlib.Core.Path.{sym, ap, ◌∙◌}
 use Prim.Native.Nat.{ℕ}
-use borrow.Author.Tests.{eq-eqb, ne_eqb, not-true, not-false}
+use borrow.Author.Tests.{eq-eqb, ne_eqb}
 use Rattle.payload.proofs.CodeReads.{must-hold, must-not, if-so, if-not}
 use Rattle.cells.specs.Answers.{cell_read}
 use Rattle.cells.specs.Cells.{is_type, cell_at}
-use borrow.Author.Rules.{rules}
 use Rattle.cells.proofs.cell_at.Goals as goal
 
 pub returns-then-not-is_type : goal.returns-then-not-is_type

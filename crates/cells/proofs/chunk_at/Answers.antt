@@ -1,10 +1,9 @@
 -- `cells::chunk_at` meets its contract. Assumes nothing.
 use mathlib.Core.Path.{sym, ap, ◌∙◌}
-use borrow.Author.Tests.{eq-eqb, ne_eqb, not-true, not-false}
+use borrow.Author.Tests.{eq-eqb, ne_eqb}
 use Rattle.payload.proofs.CodeReads.{number-got, number-not, part-got, part-not, must-hold, must-not, if-so, if-not}
 use Rattle.cells.specs.Code.{chunk_read}
 use Rattle.cells.specs.Cells.{chunk_at}
-use borrow.Author.Rules.{rules}
 use Rattle.cells.proofs.chunk_at.Goals as goal
 
 pub returns-in-Refused : goal.returns-in-Refused

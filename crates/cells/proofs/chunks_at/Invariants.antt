@@ -1,11 +1,8 @@
 -- `cells::chunks_at` meets its contract. Assumes nothing.
-use mathlib.Core.Path.{refl}
 use Prim.Native.Nat.{◌-◌}
 use lib.ListN.{length}
-use native.Mathlib.Omega.{arith}
 use Rattle.payload.specs.Frames.{source_from}
-use Rattle.cells.proofs.CodeChunks.{Chunking, chunking-begins, chunking-breaks, chunking-ends, chunking-last, chunking-says, chunking-on}
-use borrow.Author.Rules.{rules}
+use Rattle.cells.proofs.CodeChunks.{Chunking}
 use Rattle.cells.proofs.chunks_at.Given as goal
 
 abbrev pub invariant-loop-n : goal.invariant-loop-n

@@ -3,7 +3,6 @@ use lib.IntN.{ℤ}
 use Rattle.cells.specs.declared.CellRead.TheVariants as cell
 use Rattle.cells.specs.declared.Value.TheVariants as value
 use mathlib.Core.Path.{sym, ap, ◌∙◌}
-use native.Mathlib.Omega.{arith}
 use borrow.Author.Tests.{eq-eqb, ne_eqb}
 use Rattle.payload.proofs.CodeReads.{number-got, number-not, must-hold, must-not, if-so, if-not, below}
 use Rattle.cells.specs.Answers.{cell_read}

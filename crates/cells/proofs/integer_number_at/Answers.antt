@@ -1,6 +1,5 @@
 -- `cells::integer_number_at` meets its contract. Assumes nothing.
 use Rattle.cells.proofs.CodeTypes.{width-last}
-use borrow.Author.Rules.{rules}
 use Rattle.cells.proofs.integer_number_at.Goals as goal
 
 pub returns-in-1 : goal.returns-in-1

@@ -1,10 +1,8 @@
 -- `cells::length_at` meets its contract. Assumes nothing.
-use mathlib.Core.Path.{◌≡◌, sym, ◌∙◌}
+use mathlib.Core.Path.{sym, ◌∙◌}
 use native.Mathlib.Omega.{arith}
-use Rattle.token.specs.Types.{length_width}
 use Rattle.payload.proofs.CodeReads.{below_more}
 use Rattle.cells.proofs.CodeTypes.{width_two}
-use borrow.Author.Rules.{rules}
 use Rattle.cells.proofs.length_at.Goals as goal
 
 pub returns-then-length_width-eq1 : goal.returns-then-length_width-eq1

@@ -1,12 +1,11 @@
 -- `cells::max_at` meets its contract. Assumes nothing.
 use mathlib.Core.Path.{sym, ap, ◌∙◌}
-use borrow.Author.Tests.{eq-eqb, ne_eqb, not-true, not-false}
+use borrow.Author.Tests.{eq-eqb, ne_eqb}
 use Rattle.payload.proofs.CodeReads.{number-got, number-not, must-hold, must-not, if-so, if-not, then-got, then-not}
 use Rattle.cells.proofs.CodeChunks.{chunks-is, chunks-is-not}
 use Rattle.cells.specs.Answers.{cell_read}
 use Rattle.cells.specs.Cells.{max_at}
 use Rattle.payload.specs.Frames.{source_from}
-use borrow.Author.Rules.{rules}
 use Rattle.cells.proofs.max_at.Goals as goal
 
 pub returns-in-Refused : goal.returns-in-Refused

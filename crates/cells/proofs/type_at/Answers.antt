@@ -1,11 +1,9 @@
 -- `cells::type_at` meets its contract. Assumes nothing.
 use mathlib.Core.Path.{sym, ap, ◌∙◌}
 use native.Mathlib.Omega.{arith}
-use borrow.Author.Tests.{not-true, not-false}
 use Rattle.payload.proofs.CodeReads.{number-got, number-not, part-got, part-not, must-hold, must-not, below}
 use Rattle.cells.specs.Answers.{type_read}
 use Rattle.cells.specs.Cells.{type_at}
-use borrow.Author.Rules.{rules}
 use Rattle.cells.proofs.type_at.Goals as goal
 
 pub returns-in-Refused : goal.returns-in-Refused

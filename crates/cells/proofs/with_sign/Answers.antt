@@ -2,7 +2,6 @@
 use native.Mathlib.Omega.{arith}
 use Prim.Native.Nat.{◌-◌}
 use Rattle.cells.proofs.CodeSigns.{fits, low, high}
-use borrow.Author.Rules.{rules}
 use Rattle.cells.proofs.with_sign.Goals as goal
 
 pub overflow_sub-result-else-n-half-3 : goal.overflow_sub-result-else-n-half-3

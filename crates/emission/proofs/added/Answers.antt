@@ -1,7 +1,6 @@
 -- `emission::added` meets its contract. Assumes nothing.
 use native.Mathlib.Omega.{arith}
 use Rattle.emission.specs.Runs.{capped}
-use borrow.Author.Rules.{rules}
 use Rattle.emission.proofs.added.Goals as goal
 
 pub returns-then-sum-gt65536 : goal.returns-then-sum-gt65536

@@ -4,7 +4,6 @@ use Rattle.script.specs.Records.{records}
 use Rattle.script.specs.Runs.{ahead}
 use Rattle.emission.proofs.Turns.{turned_none}
 use Rattle.emission.proofs.Values.{cell-known, cell-unknown}
-use borrow.Author.Rules.{rules}
 use Rattle.emission.proofs.cell_turn.Goals as goal
 
 pub returns-in-Known : goal.returns-in-Known

@@ -1,6 +1,5 @@
 -- `emission::chunked_turn` meets its contract. Assumes nothing.
 use Rattle.emission.proofs.Turns.{turned-chunks}
-use borrow.Author.Rules.{rules}
 use Rattle.emission.proofs.chunked_turn.Goals as goal
 
 pub returns : goal.returns

@@ -1,7 +1,6 @@
 -- `emission::collation` meets its contract. Assumes nothing.
 use mathlib.Core.Path.{◌∙◌}
 use Rattle.wire.specs.Part.{part_bytes}
-use borrow.Author.Rules.{rules}
 use Rattle.emission.proofs.collation.Goals as goal
 
 pub returns : goal.returns

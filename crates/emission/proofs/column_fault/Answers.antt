@@ -1,11 +1,10 @@
 -- `emission::column_fault` meets its contract. Assumes nothing.
-use mathlib.Core.Path.{refl, sym, ap, ◌∙◌}
+use mathlib.Core.Path.{sym, ap, ◌∙◌}
 use Rattle.token.specs.Names.{name_fault}
 use Rattle.emission.specs.Emission.{column_token}
 use Rattle.emission.specs.Refusal.{fault_in}
 use Rattle.emission.proofs.Sizes.{fault-one}
 use Rattle.emission.proofs.Values.{column-known, column-unknown}
-use borrow.Author.Rules.{rules}
 use Rattle.emission.proofs.column_fault.Goals as goal
 
 pub returns-in-Known : goal.returns-in-Known

@@ -4,7 +4,6 @@ use native.Mathlib.Omega.{arith}
 use Rattle.emission.specs.Emission.{column_token}
 use Rattle.emission.proofs.Sizes.{cap-of, cap-same, size-one, size-nothing}
 use Rattle.emission.proofs.Values.{column-known, column-unknown}
-use borrow.Author.Rules.{rules}
 use Rattle.emission.proofs.column_size.Goals as goal
 
 pub returns-in-Known : goal.returns-in-Known

@@ -1,17 +1,11 @@
 -- `emission::emitted_size` meets its contract. Assumes nothing.
 -- the first record, and where it lies
-use mathlib.Core.Path.{◌≡◌, sym, ◌∙◌}
+use mathlib.Core.Path.{sym, ◌∙◌}
 use native.Mathlib.Omega.{arith}
-use Prim.Native.Nat.{ℕ, ◌+◌, ◌≤◌}
-use lib.ListN.{length}
-use mathlib.Core.List.{List}
 use borrow.Enum.Refused.{opened}
-use Rattle.script.specs.declared.Found.TheVariants.{Record}
-use Rattle.script.specs.Records.{record_at}
 use Rattle.script.proofs.Walk
 use Rattle.script.proofs.Stops.{stops}
 use Rattle.emission.proofs.Replies.{sizes-first, sizes-none, walked-cut, walked_end}
-use borrow.Author.Rules.{rules}
 use Rattle.emission.proofs.emitted_size.Goals as goal
 
 pub overflow_add-next : goal.overflow_add-next

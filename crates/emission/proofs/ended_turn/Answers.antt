@@ -1,6 +1,5 @@
 -- `emission::ended_turn` meets its contract. Assumes nothing.
 use Rattle.emission.specs.Inner.{after_done}
-use borrow.Author.Rules.{rules}
 use Rattle.emission.proofs.ended_turn.Goals as goal
 
 pub returns : goal.returns

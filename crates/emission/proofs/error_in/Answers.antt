@@ -1,19 +1,12 @@
 -- `emission::error_in` meets its contract. The loop's invariant: the error of the records from `place` on is that from `at` on.
 -- Assumes nothing.
 -- the record at the place, and where it lies
-use Prim.Native.Nat.{ℕ, ◌+◌, ◌-◌, ◌≤◌}
-use borrow.Author.Tests.{not-true, not-false}
-use mathlib.Core.List.{List}
 use borrow.Enum.Refused.{opened}
-use Rattle.script.specs.declared.Found.TheVariants.{Record}
-use Rattle.script.specs.Records.{record_at}
 use Rattle.script.proofs.Walk
 use Rattle.script.proofs.Stops.{stops}
-use Rattle.emission.proofs.Walks.{error_place, error_bytes, error-here, error-none, error-later, error-cut, error-end}
-use mathlib.Core.Path.{◌≡◌, refl, sym, ◌∙◌}
-use lib.ListN.{length}
+use Rattle.emission.proofs.Walks.{error-here, error-none, error-later, error-cut, error-end}
+use mathlib.Core.Path.{refl, sym, ◌∙◌}
 use native.Mathlib.Omega.{arith}
-use borrow.Author.Rules.{rules}
 use Rattle.emission.proofs.error_in.Goals as goal
 
 pub loop-k-init : goal.loop-k-init

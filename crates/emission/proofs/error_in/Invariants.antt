@@ -1,18 +1,10 @@
 -- `emission::error_in` meets its contract. The loop's invariant: the error of the records from `place` on is that from `at` on.
 -- Assumes nothing.
 -- the record at the place, and where it lies
-use Prim.Native.Nat.{ℕ, ◌+◌, ◌-◌, ◌≤◌}
-use borrow.Author.Tests.{not-true, not-false}
-use mathlib.Core.List.{List}
-use Rattle.script.specs.declared.Found.TheVariants.{Record}
-use Rattle.script.specs.Records.{record_at}
-use Rattle.script.proofs.Walk
-use Rattle.script.proofs.Stops.{stops}
-use Rattle.emission.proofs.Walks.{error_place, error_bytes, error-here, error-none, error-later, error-cut, error-end}
-use mathlib.Core.Path.{◌≡◌, refl, sym, ◌∙◌}
+use Prim.Native.Nat.{◌-◌}
+use Rattle.emission.proofs.Walks.{error_place, error_bytes}
+use mathlib.Core.Path.{◌≡◌}
 use lib.ListN.{length}
-use native.Mathlib.Omega.{arith}
-use borrow.Author.Rules.{rules}
 use Rattle.emission.proofs.error_in.Given as goal
 
 abbrev pub invariant-loop-k : goal.invariant-loop-k

@@ -4,7 +4,6 @@ use Prim.Native.Nat.{ℕ, ◌+◌}
 use lib.ListN.{length}
 use mathlib.Core.List.{List}
 use Rattle.emission.specs.Runs.{capped}
-use borrow.Author.Rules.{rules}
 use Rattle.emission.proofs.error_size.Goals as goal
 
 pub returns : goal.returns

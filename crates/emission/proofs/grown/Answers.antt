@@ -1,7 +1,6 @@
 -- `emission::grown` meets its contract. Assumes nothing.
 use native.Mathlib.Omega.{arith}
 use Rattle.emission.specs.Runs.{capped}
-use borrow.Author.Rules.{rules}
 use Rattle.emission.proofs.grown.Goals as goal
 
 pub returns-then-size-ge65536 : goal.returns-then-size-ge65536

@@ -8,7 +8,6 @@ use Rattle.script.specs.Shape.{message_text, server_name, procedure_name}
 use Rattle.emission.specs.Emission.{info_token}
 use Rattle.emission.proofs.Turns.{turned-one, goes-here}
 use Rattle.emission.proofs.Sizes.{cap-texts, cap-same}
-use borrow.Author.Rules.{rules}
 use Rattle.emission.proofs.info_turn.Goals as goal
 
 pub returns : goal.returns

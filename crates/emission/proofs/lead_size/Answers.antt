@@ -11,7 +11,6 @@ use Rattle.emission.specs.Walk.{lead_pieces}
 use Rattle.emission.specs.Runs.{capped, error_found}
 use Rattle.emission.proofs.Sizes.{cap-of, cap-same, size-nothing}
 use Rattle.emission.proofs.Replies.{size-error}
-use borrow.Author.Rules.{rules}
 use Rattle.emission.proofs.lead_size.Goals as goal
 
 pub returns-in-At : goal.returns-in-At

@@ -1,6 +1,5 @@
 -- `emission::longer` meets its contract. Assumes nothing.
 use Rattle.emission.specs.Inner.{longer_run}
-use borrow.Author.Rules.{rules}
 use Rattle.emission.proofs.longer.Goals as goal
 
 pub returns : goal.returns

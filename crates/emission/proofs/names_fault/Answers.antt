@@ -1,7 +1,6 @@
 -- `emission::names_fault` meets its contract. Assumes nothing.
 use mathlib.Core.Path.{◌∙◌}
 use Rattle.emission.proofs.Sizes.{first-name}
-use borrow.Author.Rules.{rules}
 use Rattle.emission.proofs.names_fault.Goals as goal
 
 pub returns : goal.returns

@@ -1,7 +1,6 @@
 -- `emission::record_fault` meets its contract. Assumes nothing.
 use borrow.Author.Tests.{eq-eqb, ne_eqb}
 use Rattle.emission.specs.Runs.{record_fault}
-use borrow.Author.Rules.{rules}
 use Rattle.emission.proofs.record_fault.Goals as goal
 
 pub returns-then-kind-eq-COLUMN : goal.returns-then-kind-eq-COLUMN

@@ -1,9 +1,7 @@
 -- `emission::reply_length` meets its contract. Assumes nothing.
-use mathlib.Core.Path.{◌≡◌, refl, sym, ◌∙◌}
-use Rattle.script.specs.Verdict.{verdict_of}
+use mathlib.Core.Path.{refl, sym, ◌∙◌}
 use Rattle.script.proofs.Verdicts.{accepted-none, refused-by, refused-some}
 use Rattle.emission.proofs.Replies.{measure-verdict, measure-fault, measure-long, measure-size}
-use borrow.Author.Rules.{rules}
 use Rattle.emission.proofs.reply_length.Goals as goal
 
 pub returns-in-Refused : goal.returns-in-Refused

@@ -10,7 +10,6 @@ use Rattle.emission.specs.Emission.{bytes_in, leading_status}
 use Rattle.emission.specs.Walk.{lead_pieces}
 use Rattle.emission.specs.Runs.{capped, error_found}
 use Rattle.emission.proofs.Replies.{sizes-terminal, sizes-sets}
-use borrow.Author.Rules.{rules}
 use Rattle.emission.proofs.reply_size.Goals as goal
 
 pub returns-in-At : goal.returns-in-At

@@ -1,19 +1,17 @@
 -- `emission::run_at` meets its contract. Assumes nothing.
 -- the record at the place, and where it lies
-use lib.ListN.{length-take, length, drop}
+use lib.ListN.{length-take, drop}
 use borrow.Enum.Refused.{opened}
 use Rattle.emission.specs.Inner.{longer_run}
-use mathlib.Core.List.{List}
 use Rattle.script.specs.declared.Found.TheVariants.{Record}
 use Rattle.script.specs.Records.{record_at}
 use Rattle.script.proofs.Walk
 use Rattle.emission.specs.declared.Run.{Run}
 use Rattle.script.proofs.Stops.{stops}
-use Rattle.emission.proofs.Aheads.{Reached, reached-start, reached-next, none_left, ahead-other, ahead-cut, ahead-end}
-use Prim.Native.Nat.{ℕ, ◌+◌, ◌-◌, ◌≤◌}
+use Rattle.emission.proofs.Aheads.{reached-start, reached-next, none_left, ahead-other, ahead-cut, ahead-end}
+use Prim.Native.Nat.{ℕ, ◌+◌, ◌-◌}
 use mathlib.Core.Path.{◌≡◌, sym, ap, ◌∙◌}
 use native.Mathlib.Omega.{arith}
-use borrow.Author.Rules.{rules}
 use Rattle.emission.proofs.run_at.Goals as goal
 
 pub loop-k-init : goal.loop-k-init

@@ -1,6 +1,5 @@
 -- `emission::set_turn` meets its contract. Assumes nothing.
 use Rattle.emission.proofs.Turns.{turned_set}
-use borrow.Author.Rules.{rules}
 use Rattle.emission.proofs.set_turn.Goals as goal
 
 pub returns : goal.returns

@@ -1,7 +1,6 @@
 -- `emission::sets_size` meets its contract. Assumes nothing.
 use Rattle.emission.proofs.Replies.{sets-bad, sets_then}
 use Rattle.emission.proofs.Sizes.{cap-small}
-use borrow.Author.Rules.{rules}
 use Rattle.emission.proofs.sets_size.Goals as goal
 
 pub returns-then-turn-ne-NONE : goal.returns-then-turn-ne-NONE

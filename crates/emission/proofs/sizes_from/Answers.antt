@@ -1,21 +1,12 @@
 -- `emission::sizes_from` meets its contract. Assumes nothing.
 -- the record at the place, and where it lies
-use Prim.Native.Nat.{ℕ, ◌+◌, ◌-◌, ◌≤◌}
-use mathlib.Core.List.{List}
 use borrow.Enum.Refused.{opened}
-use Rattle.script.specs.declared.Found.TheVariants.{Record}
-use Rattle.script.specs.Records.{record_at}
 use Rattle.script.proofs.Walk
-use Rattle.emission.specs.Emission.{bytes_in}
-use Rattle.emission.specs.Refusal.{fault_in}
-use Rattle.emission.specs.Runs.{capped}
 use Rattle.emission.proofs.Sizes.{cap-small}
 use Rattle.script.proofs.Stops.{stops}
-use Rattle.emission.proofs.Walks.{left, left-bad, left-fault, left-size, left_cut, left_end, end-fault, end-size}
-use mathlib.Core.Path.{◌≡◌, refl, sym, ◌∙◌}
-use lib.ListN.{length}
+use Rattle.emission.proofs.Walks.{left-bad, left-fault, left-size, left_cut, left_end, end-fault, end-size}
+use mathlib.Core.Path.{refl, sym, ◌∙◌}
 use native.Mathlib.Omega.{arith}
-use borrow.Author.Rules.{rules}
 use Rattle.emission.proofs.sizes_from.Goals as goal
 
 pub loop-kind-init : goal.loop-kind-init

@@ -1,20 +1,12 @@
 -- `emission::sizes_from` meets its contract. Assumes nothing.
 -- the record at the place, and where it lies
-use Prim.Native.Nat.{ℕ, ◌+◌, ◌-◌, ◌≤◌}
-use mathlib.Core.List.{List}
-use Rattle.script.specs.declared.Found.TheVariants.{Record}
-use Rattle.script.specs.Records.{record_at}
-use Rattle.script.proofs.Walk
+use Prim.Native.Nat.{◌+◌, ◌-◌, ◌≤◌}
 use Rattle.emission.specs.Emission.{bytes_in}
 use Rattle.emission.specs.Refusal.{fault_in}
 use Rattle.emission.specs.Runs.{capped}
-use Rattle.emission.proofs.Sizes.{cap-small}
-use Rattle.script.proofs.Stops.{stops}
-use Rattle.emission.proofs.Walks.{left, left-bad, left-fault, left-size, left_cut, left_end, end-fault, end-size}
-use mathlib.Core.Path.{◌≡◌, refl, sym, ◌∙◌}
+use Rattle.emission.proofs.Walks.{left}
+use mathlib.Core.Path.{◌≡◌}
 use lib.ListN.{length}
-use native.Mathlib.Omega.{arith}
-use borrow.Author.Rules.{rules}
 use Rattle.emission.proofs.sizes_from.Given as goal
 
 abbrev pub invariant-loop-kind : goal.invariant-loop-kind

@@ -6,7 +6,6 @@ use borrow.Author.Tests.{ne_eqb}
 use Rattle.token.specs.Tokens.{row}
 use Rattle.emission.proofs.Turns.{turned-done, turned-one, turned_none, goes-here}
 use Rattle.emission.proofs.Sizes.{cap-of, cap-same, size-row}
-use borrow.Author.Rules.{rules}
 use Rattle.emission.proofs.turn_at.Goals as goal
 
 pub returns-in-1 : goal.returns-in-1

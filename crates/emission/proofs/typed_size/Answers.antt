@@ -5,7 +5,6 @@ use lib.ListN.{length, take, drop}
 use Rattle.token.specs.Types.{type_code, type_length, length_width, collation_size}
 use Rattle.emission.proofs.Sizes.{cap-left, cap-same, size-column}
 use mathlib.Core.Path.{ap, ◌∙◌}
-use borrow.Author.Rules.{rules}
 use Rattle.emission.proofs.typed_size.Goals as goal
 
 pub returns : goal.returns

@@ -8,7 +8,6 @@ use Rattle.script.specs.Records.{records}
 use Rattle.script.specs.Runs.{ahead}
 use Rattle.emission.proofs.Values.{cell-of, plain_cell}
 use Rattle.emission.proofs.Sizes.{cap-of, cap-same, size-integer, size-bounded, size-no-long, size-no-integer}
-use borrow.Author.Rules.{rules}
 use Rattle.emission.proofs.value_turn.Goals as goal
 
 pub returns-in-TinyInt : goal.returns-in-TinyInt

@@ -2,7 +2,6 @@
 use borrow.Author.Tests.{ne_eqb}
 use lib.ListN.{length-drop}
 use Rattle.fit.specs.Misfits.{cell_fits}
-use borrow.Author.Rules.{rules}
 use Rattle.fit.proofs.cell_fits.Goals as goal
 
 pub returns-in-5 : goal.returns-in-5

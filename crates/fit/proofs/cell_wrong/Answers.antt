@@ -5,7 +5,6 @@ use native.Mathlib.Omega.{arith}
 use lib.ListN.{drop_of_length-le}
 use lib.Seq.{drop-cons}
 use Rattle.fit.specs.Walks.{cell_wrong}
-use borrow.Author.Rules.{rules}
 use Rattle.fit.proofs.cell_wrong.Goals as goal
 
 pub returns-then-types-column : goal.returns-then-types-column

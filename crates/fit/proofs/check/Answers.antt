@@ -1,7 +1,6 @@
 -- `fit::check` meets its contract. Assumes nothing.
 use Rattle.fit.proofs.Accepts.{refused, accepted}
 use mathlib.Core.Path.{sym, ◌∙◌}
-use borrow.Author.Rules.{rules}
 use Rattle.fit.proofs.check.Goals as goal
 
 pub returns-in-Refused : goal.returns-in-Refused

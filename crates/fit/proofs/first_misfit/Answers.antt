@@ -1,7 +1,6 @@
 -- `fit::first_misfit` meets its contract. Assumes nothing.
 use Rattle.fit.specs.Records.{misfits_in}
 use mathlib.Core.Path.{sym, ◌∙◌}
-use borrow.Author.Rules.{rules}
 use Rattle.fit.proofs.first_misfit.Goals as goal
 
 pub returns-then-is_terminal : goal.returns-then-is_terminal

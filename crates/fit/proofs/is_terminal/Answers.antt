@@ -2,12 +2,9 @@
 use borrow.Enum.Refused.{opened}
 use Rattle.script.proofs.Stops.{stops}
 use Rattle.fit.proofs.Terminal.{terminal-cut, terminal-end, terminal-error, terminal-none}
-use Rattle.script.specs.declared.Found.TheVariants.{Record}
-use Rattle.script.specs.Records.{record_at}
 use Rattle.script.proofs.Walk.{lies}
 use native.Mathlib.Omega.{arith}
-use mathlib.Core.Path.{◌≡◌, sym, ◌∙◌}
-use borrow.Author.Rules.{rules}
+use mathlib.Core.Path.{sym, ◌∙◌}
 use Rattle.fit.proofs.is_terminal.Goals as goal
 
 pub overflow_add-start : goal.overflow_add-start

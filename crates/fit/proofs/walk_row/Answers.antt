@@ -1,18 +1,13 @@
 -- `fit::walk_row` meets its contract. The loop's invariant: what the cells from `at` on have against the columns that are left is
 -- what the row has against all its columns, and the records passed have no misfit of their own. Assumes nothing.
 use borrow.Enum.Refused.{opened}
-use Rattle.fit.proofs.RowTurns.{Left, cells_cut, cells-end, cells-other, row-none, row-start, row-ended, row-chunk, row-wrong, row_next, row_room}
+use Rattle.fit.proofs.RowTurns.{cells_cut, cells-end, cells-other, row-none, row-start, row-ended, row-chunk, row-wrong, row_next, row_room}
 use Rattle.script.proofs.Stops.{stops}
 use Rattle.fit.proofs.Skip.{kind-is}
 use Rattle.script.proofs.Walk.{lies}
 use borrow.Author.Tests.{ne_eqb}
-use Rattle.script.specs.Records.{record_at}
-use Rattle.script.specs.declared.Found.TheVariants.{Record}
-use Prim.Native.Nat.{◌-◌}
-use mathlib.Core.Path.{◌≡◌, sym, ◌∙◌}
-use lib.ListN.{length}
+use mathlib.Core.Path.{sym, ◌∙◌}
 use native.Mathlib.Omega.{arith}
-use borrow.Author.Rules.{rules}
 use Rattle.fit.proofs.walk_row.Goals as goal
 
 pub returns-then-types-eq0 : goal.returns-then-types-eq0

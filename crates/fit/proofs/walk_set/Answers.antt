@@ -2,7 +2,6 @@
 use Rattle.fit.proofs.SetTurns.{set-classified, set-types, set-wrong, set-rows}
 use lib.ListN.{length-take}
 use native.Mathlib.Omega.{arith}
-use borrow.Author.Rules.{rules}
 use Rattle.fit.proofs.walk_set.Goals as goal
 
 pub returns-then-classification-ne0 : goal.returns-then-classification-ne0

@@ -1,13 +1,9 @@
 -- `fit::walk_sets` meets its contract. The loop's invariant: the first misfit of the sets from `at` on is the script's. Assumes nothing.
 use borrow.Enum.Refused.{opened}
-use Rattle.fit.proofs.SetTurns.{LeftSets, all-cut, all_end, all-wrong, all-onward, all-next}
+use Rattle.fit.proofs.SetTurns.{all-cut, all_end, all-wrong, all-onward, all-next}
 use Rattle.script.proofs.Stops.{stops}
 use Rattle.script.proofs.Walk.{lies}
-use Rattle.script.specs.Records.{record_at}
-use Rattle.script.specs.declared.Found.TheVariants.{Record}
-use Prim.Native.Nat.{◌-◌}
-use mathlib.Core.Path.{◌≡◌, refl, sym, ◌∙◌}
-use lib.ListN.{length}
+use mathlib.Core.Path.{refl, sym, ◌∙◌}
 use native.Mathlib.Omega.{arith}
 use borrow.Author.Rules.{rules}
 use Rattle.fit.proofs.walk_sets.Goals as goal

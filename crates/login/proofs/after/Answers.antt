@@ -1,8 +1,6 @@
 -- `login::after` meets its contract. Assumes nothing.
 use mathlib.Core.Path.{sym, ◌∙◌}
-use borrow.Author.Tests.{not-true}
 use Rattle.login.proofs.Others.{left-as-it-is}
-use borrow.Author.Rules.{rules}
 use Rattle.login.proofs.after.Goals as goal
 
 pub returns-then-not-counts : goal.returns-then-not-counts

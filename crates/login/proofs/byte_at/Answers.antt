@@ -3,7 +3,6 @@ use lib.Seq.{drop-cons}
 use lib.ListN.{drop_of_length-le}
 use native.Mathlib.Omega.{arith}
 use Rattle.login.specs.Rules.{byte_at}
-use borrow.Author.Rules.{rules}
 use Rattle.login.proofs.byte_at.Goals as goal
 
 pub returns-then-at-held : goal.returns-then-at-held

@@ -1,6 +1,5 @@
 -- `login::changed` meets its contract. Assumes nothing.
 use Rattle.login.specs.Login.{after}
-use borrow.Author.Rules.{rules}
 use Rattle.login.proofs.changed.Goals as goal
 
 pub returns : goal.returns

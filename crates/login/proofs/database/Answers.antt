@@ -1,7 +1,6 @@
 -- `login::database` meets its contract. Assumes nothing.
 use mathlib.Core.Path.{sym, ◌∙◌}
 use Rattle.login.specs.Login.{database_of}
-use borrow.Author.Rules.{rules}
 use Rattle.login.proofs.database.Goals as goal
 
 pub returns-in-At : goal.returns-in-At

@@ -1,6 +1,5 @@
 -- `login::database_part` meets its contract. Assumes nothing.
 use Rattle.login.specs.Login.{database_part}
-use borrow.Author.Rules.{rules}
 use Rattle.login.proofs.database_part.Goals as goal
 
 pub returns : goal.returns

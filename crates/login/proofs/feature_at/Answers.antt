@@ -5,7 +5,6 @@ use Rattle.login.specs.Inner.{follow, Lies}
 use Prim.Native.Nat.{◌-◌, ◌≤◌}
 use lib.ListN.{length}
 use native.Mathlib.Omega.{arith}
-use borrow.Author.Rules.{rules}
 use Rattle.login.proofs.feature_at.Goals as goal
 
 pub returns-then-left-lt-FEATURE_HEAD : goal.returns-then-left-lt-FEATURE_HEAD

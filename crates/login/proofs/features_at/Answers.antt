@@ -3,7 +3,6 @@ use borrow.Author.Tests.{le-leb, lt-leb, eq-eqb, ne_eqb}
 use Rattle.login.specs.Body.{features_at, has_extension, extension}
 use Rattle.wire.proofs.Le.{le-one}
 use native.Mathlib.Omega.{arith}
-use borrow.Author.Rules.{rules}
 use Rattle.login.proofs.features_at.Goals as goal
 
 pub returns-then-body : goal.returns-then-body

@@ -1,6 +1,5 @@
 -- `login::has_options` meets its contract. Assumes nothing.
 use Rattle.login.specs.Rules.{has_options}
-use borrow.Author.Rules.{rules}
 use Rattle.login.proofs.has_options.Goals as goal
 
 pub returns : goal.returns

@@ -1,6 +1,5 @@
 -- `login::head` meets its contract. Assumes nothing.
 use Rattle.login.specs.Login.{head_of, database_part}
-use borrow.Author.Rules.{rules}
 use Rattle.login.proofs.head.Goals as goal
 
 pub returns : goal.returns

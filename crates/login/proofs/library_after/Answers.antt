@@ -1,8 +1,6 @@
 -- `login::library_after` meets its contract. Assumes nothing.
-use borrow.Author.Tests.{not-true, not-false}
 use mathlib.Core.Path.{sym, ◌∙◌}
 use Rattle.login.specs.Rules.{library_after}
-use borrow.Author.Rules.{rules}
 use Rattle.login.proofs.library_after.Goals as goal
 
 pub returns-then-not-has_options : goal.returns-then-not-has_options

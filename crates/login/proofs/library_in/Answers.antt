@@ -1,6 +1,5 @@
 -- `login::library_in` meets its contract. Assumes nothing.
 use Rattle.login.specs.Rules.{library_in}
-use borrow.Author.Rules.{rules}
 use Rattle.login.proofs.library_in.Goals as goal
 
 pub returns : goal.returns

@@ -5,7 +5,6 @@ use Rattle.login.specs.Login.{parse_login7, login_of, ids_after}
 use Rattle.login.specs.Features.{features}
 use Rattle.login.specs.Inner.{features_from}
 use Rattle.login.proofs.Walk.{from_start}
-use borrow.Author.Rules.{rules}
 use Rattle.login.proofs.parse_login7.Goals as goal
 
 pub returns-then-ids-count : goal.returns-then-ids-count

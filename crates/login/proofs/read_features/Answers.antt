@@ -1,16 +1,13 @@
 -- `login::read_features` meets its contract. The loop's invariant: the features from the place on bring the login to what all
 -- bring it to, and with those counted are as many as all. Assumes nothing.
 use mathlib.Core.List.{foldl}
-use Prim.Native.Nat.{◌+◌, ◌-◌, ◌≤◌}
 use native.Mathlib.Nat.{zero-add, add-zero}
-use Rattle.login.proofs.Walk.{Stands, stands, ends}
+use Rattle.login.proofs.Walk.{stands, ends}
 use Rattle.login.specs.declared.Login.{Login}
 use Rattle.login.specs.Inner.{features_from}
-use Rattle.login.specs.Login.{after, head_of}
-use mathlib.Core.Path.{◌≡◌, ap}
-use lib.ListN.{length}
+use Rattle.login.specs.Login.{after}
+use mathlib.Core.Path.{ap}
 use native.Mathlib.Omega.{arith}
-use borrow.Author.Rules.{rules}
 use Rattle.login.proofs.read_features.Goals as goal
 
 pub loop-feature-init : goal.loop-feature-init

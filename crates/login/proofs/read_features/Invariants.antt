@@ -2,15 +2,10 @@
 -- bring it to, and with those counted are as many as all. Assumes nothing.
 use mathlib.Core.List.{foldl}
 use Prim.Native.Nat.{◌+◌, ◌-◌, ◌≤◌}
-use native.Mathlib.Nat.{zero-add, add-zero}
-use Rattle.login.proofs.Walk.{Stands, stands, ends}
-use Rattle.login.specs.declared.Login.{Login}
 use Rattle.login.specs.Inner.{features_from}
 use Rattle.login.specs.Login.{after, head_of}
-use mathlib.Core.Path.{◌≡◌, ap}
+use mathlib.Core.Path.{◌≡◌}
 use lib.ListN.{length}
-use native.Mathlib.Omega.{arith}
-use borrow.Author.Rules.{rules}
 use Rattle.login.proofs.read_features.Given as goal
 
 abbrev pub invariant-loop-feature : goal.invariant-loop-feature

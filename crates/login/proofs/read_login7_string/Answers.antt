@@ -1,13 +1,9 @@
 -- `login::read_login7_string` meets its contract. Assumes nothing.
-use mathlib.Core.Path.{◌≡◌, sym}
-use mathlib.Core.Bool.{cond}
-use Rattle.login.specs.declared.Text.TheVariants.{At, Missing}
-use borrow.Author.Tests.{lt-ltb, le-leb, lt-leb, not-true, not-false}
+use borrow.Author.Tests.{lt-ltb, le-leb, lt-leb}
 use Rattle.login.specs.Body.{text_at}
 use lib.ListN.{length}
 use Prim.Native.Nat.{◌+◌, ◌*◌, ◌<◌, ◌≤◌}
 use native.Mathlib.Omega.{arith}
-use borrow.Author.Rules.{rules}
 use Rattle.login.proofs.read_login7_string.Goals as goal
 
 pub returns-then-left-lt4 : goal.returns-then-left-lt4

@@ -1,12 +1,11 @@
 -- `login::token_after` meets its contract. Assumes nothing.
-use borrow.Author.Tests.{lt-ltb, le-ltb, le-leb, lt-leb, eq-eqb, ne_eqb, not-true, not-false}
+use borrow.Author.Tests.{lt-ltb, le-ltb, le-leb, lt-leb, eq-eqb, ne_eqb}
 use mathlib.Core.Path.{sym, ◌∙◌}
 use Rattle.login.specs.Rules.{token_after}
 use Rattle.wire.specs.Le.{le_at}
 use lib.ListN.{length, drop}
 use Prim.Native.Nat.{◌+◌, ◌<◌, ◌≤◌}
 use native.Mathlib.Omega.{arith}
-use borrow.Author.Rules.{rules}
 use Rattle.login.proofs.token_after.Goals as goal
 
 pub returns-then-not-has_options : goal.returns-then-not-has_options

@@ -1,8 +1,7 @@
 -- `login::user_agent_after` meets its contract. Assumes nothing.
-use borrow.Author.Tests.{eq-eqb, ne_eqb, not-true, not-false}
+use borrow.Author.Tests.{eq-eqb, ne_eqb}
 use mathlib.Core.Path.{sym, ◌∙◌}
 use Rattle.login.specs.Rules.{user_agent_after}
-use borrow.Author.Rules.{rules}
 use Rattle.login.proofs.user_agent_after.Goals as goal
 
 pub returns-then-feature-ne-FEATURE_EXT_USER_AGENT : goal.returns-then-feature-ne-FEATURE_EXT_USER_AGENT

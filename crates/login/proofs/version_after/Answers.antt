@@ -3,7 +3,6 @@ use borrow.Author.Tests.{lt-ltb, eq-eqb, ne_eqb}
 use Rattle.login.specs.Rules.{version_after}
 use Prim.Native.Nat.{◌<◌}
 use native.Mathlib.Omega.{arith}
-use borrow.Author.Rules.{rules}
 use Rattle.login.proofs.version_after.Goals as goal
 
 pub returns-then-feature-ne-FEATURE_EXT_DATA_CLASSIFICATION : goal.returns-then-feature-ne-FEATURE_EXT_DATA_CLASSIFICATION

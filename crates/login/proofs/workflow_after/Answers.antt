@@ -1,8 +1,7 @@
 -- `login::workflow_after` meets its contract. Assumes nothing.
-use borrow.Author.Tests.{eq-eqb, ne_eqb, not-true, not-false}
+use borrow.Author.Tests.{eq-eqb, ne_eqb}
 use mathlib.Core.Path.{sym, ◌∙◌}
 use Rattle.login.specs.Rules.{workflow_after}
-use borrow.Author.Rules.{rules}
 use Rattle.login.proofs.workflow_after.Goals as goal
 
 pub returns-then-not-has_options : goal.returns-then-not-has_options

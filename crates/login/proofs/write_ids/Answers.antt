@@ -1,15 +1,12 @@
 -- `login::write_ids` meets its contract. The loop's invariant: with the ids of the features from the place on written after
 -- those that are, all are written, and there is room for them. Assumes nothing.
-use Prim.Native.Nat.{◌+◌, ◌-◌, ◌≤◌}
-use Rattle.login.proofs.Walk.{Stands, stands, ends}
-use lib.ListN.{length-set, length}
+use Rattle.login.proofs.Walk.{stands, ends}
+use lib.ListN.{length-set}
 use native.Mathlib.Numerals.{add-one}
 use Rattle.wire.specs.Over.{overwrite}
 use Rattle.login.specs.Features.{ids_of}
-use Rattle.login.specs.Inner.{features_from}
-use mathlib.Core.Path.{◌≡◌, refl}
+use mathlib.Core.Path.{refl}
 use native.Mathlib.Omega.{arith}
-use borrow.Author.Rules.{rules}
 use Rattle.login.proofs.write_ids.Goals as goal
 
 pub loop-feature-init : goal.loop-feature-init

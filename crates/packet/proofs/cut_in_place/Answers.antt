@@ -1,7 +1,6 @@
 -- `packet::cut_in_place` meets its contract. Assumes nothing.
 use native.Mathlib.Omega.{arith}
 use Rattle.packet.proofs.Cutting.{no_room, too_short, long-enough, stands-first, cut-done}
-use borrow.Author.Rules.{rules}
 use Rattle.packet.proofs.cut_in_place.Goals as goal
 
 pub returns-then-size-le8 : goal.returns-then-size-le8

@@ -1,8 +1,7 @@
 -- `packet::move_bytes` meets its contract: the bytes go up one by one, and what is still to be moved stands at or after what was
 -- written. Assumes nothing.
-use Prim.Native.Nat.{◌-◌, ◌≤◌}
 use mathlib.Core.Path.{◌≡◌, refl}
-use lib.ListN.{length, take, drop, length-set}
+use lib.ListN.{length-set}
 use native.Mathlib.Omega.{arith}
 use borrow.Author.Rules.{rules}
 use Rattle.wire.specs.Over.{overwrite}

@@ -1,12 +1,9 @@
 -- `packet::move_bytes` meets its contract: the bytes go up one by one, and what is still to be moved stands at or after what was
 -- written. Assumes nothing.
 use Prim.Native.Nat.{◌-◌, ◌≤◌}
-use mathlib.Core.Path.{◌≡◌, refl}
-use lib.ListN.{length, take, drop, length-set}
-use native.Mathlib.Omega.{arith}
-use borrow.Author.Rules.{rules}
+use mathlib.Core.Path.{◌≡◌}
+use lib.ListN.{length, take, drop}
 use Rattle.wire.specs.Over.{overwrite}
-use Rattle.packet.proofs.Moved.{move-more, moved}
 use Rattle.packet.proofs.move_bytes.Given as goal
 
 abbrev pub invariant-loop-i : goal.invariant-loop-i

@@ -1,8 +1,6 @@
 -- `packet::move_down` meets its contract: the bytes go up, eight at a time, and what is still to be moved stands at or after what
 -- was written. Assumes nothing.
-use Prim.Native.Nat.{◌-◌, ◌≤◌}
-use mathlib.Core.Path.{◌≡◌, refl}
-use lib.ListN.{length, take, drop}
+use mathlib.Core.Path.{refl}
 use native.Mathlib.Omega.{arith}
 use borrow.Author.Rules.{rules}
 use Rattle.wire.specs.Over.{overwrite}

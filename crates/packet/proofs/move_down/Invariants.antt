@@ -1,12 +1,9 @@
 -- `packet::move_down` meets its contract: the bytes go up, eight at a time, and what is still to be moved stands at or after what
 -- was written. Assumes nothing.
 use Prim.Native.Nat.{◌-◌, ◌≤◌}
-use mathlib.Core.Path.{◌≡◌, refl}
+use mathlib.Core.Path.{◌≡◌}
 use lib.ListN.{length, take, drop}
-use native.Mathlib.Omega.{arith}
-use borrow.Author.Rules.{rules}
 use Rattle.wire.specs.Over.{overwrite}
-use Rattle.packet.proofs.Moved.{moved_nowhere, moved_more, moved-rest}
 use Rattle.packet.proofs.move_down.Given as goal
 
 abbrev pub invariant-loop-i : goal.invariant-loop-i

@@ -1,6 +1,5 @@
 -- `packet::move_eight` meets its contract. Assumes nothing.
 use Rattle.packet.proofs.Moved.{moved-eight}
-use borrow.Author.Rules.{rules}
 use Rattle.packet.proofs.move_eight.Goals as goal
 
 pub returns : goal.returns

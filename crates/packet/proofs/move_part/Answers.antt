@@ -1,7 +1,6 @@
 -- `packet::move_part` meets its contract. Assumes nothing.
 use native.Mathlib.Omega.{arith}
 use Rattle.packet.proofs.Cutting.{starts, as_long, moved-part}
-use borrow.Author.Rules.{rules}
 use Rattle.wire.proofs.Over.{wrote}
 use Rattle.packet.proofs.move_part.Goals as goal
 

@@ -1,12 +1,9 @@
 -- `packet::move_parts` meets its contract: what is left of the payload stands up to total, where the packets that are still owed
 -- end too, and a turn writes the first of them. Assumes nothing.
-use Prim.Native.Nat.{◌+◌, ◌-◌, ◌≤◌}
-use mathlib.Core.Path.{◌≡◌, refl}
-use lib.ListN.{length}
+use mathlib.Core.Path.{refl}
 use native.Mathlib.Omega.{arith}
 use borrow.Author.Rules.{rules}
-use Rattle.wire.proofs.Over.{Owes, owes-less, owes-last, wrote_nothing}
-use Rattle.packet.specs.Inner.{Stands}
+use Rattle.wire.proofs.Over.{owes-less, owes-last, wrote_nothing}
 use Rattle.packet.proofs.Cutting.{held_left, header-before, held-turn, stands-turn, held_none}
 use Rattle.packet.proofs.move_parts.Goals as goal
 

@@ -1,13 +1,11 @@
 -- `packet::move_parts` meets its contract: what is left of the payload stands up to total, where the packets that are still owed
 -- end too, and a turn writes the first of them. Assumes nothing.
 use Prim.Native.Nat.{◌+◌, ◌-◌, ◌≤◌}
-use mathlib.Core.Path.{◌≡◌, refl}
+use mathlib.Core.Path.{◌≡◌}
 use lib.ListN.{length}
-use native.Mathlib.Omega.{arith}
-use borrow.Author.Rules.{rules}
-use Rattle.wire.proofs.Over.{Owes, owes-less, owes-last, wrote_nothing}
+use Rattle.wire.proofs.Over.{Owes}
 use Rattle.packet.specs.Inner.{Stands}
-use Rattle.packet.proofs.Cutting.{held_left, header-before, held-turn, stands-turn, held_none}
+use Rattle.packet.proofs.Cutting.{held_left}
 use Rattle.packet.proofs.move_parts.Given as goal
 
 abbrev pub invariant-loop-place : goal.invariant-loop-place

@@ -1,6 +1,5 @@
 -- `packet::packets_length` meets its contract. Assumes nothing.
 use Rattle.packet.specs.Agreed.{packets_length}
-use borrow.Author.Rules.{rules}
 use Rattle.packet.proofs.packets_length.Goals as goal
 
 pub returns : goal.returns

@@ -1,5 +1,4 @@
 -- `packet::part_header` meets its contract. Assumes nothing.
-use borrow.Author.Rules.{rules}
 use Rattle.packet.proofs.part_header.Goals as goal
 
 pub returns : goal.returns

@@ -1,5 +1,4 @@
 -- `packet::part_status` meets its contract. Assumes nothing.
-use borrow.Author.Rules.{rules}
 use Rattle.packet.proofs.part_status.Goals as goal
 
 pub returns-then-last : goal.returns-then-last

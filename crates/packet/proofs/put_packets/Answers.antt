@@ -1,13 +1,12 @@
 -- `packet::put_packets` meets its contract: with the packets from a place on still owed, a turn writes the first of them.
 -- Assumes nothing.
-use Prim.Native.Nat.{◌+◌, ◌-◌, ◌≤◌}
-use mathlib.Core.Path.{◌≡◌, refl, sym}
-use lib.ListN.{length}
+use Prim.Native.Nat.{◌-◌}
+use mathlib.Core.Path.{refl, sym}
 use native.Mathlib.Omega.{arith}
 use borrow.Author.Rules.{rules}
-use Rattle.wire.proofs.Over.{Owes, owes-less, owes-last, wrote_nothing, wrote_as, place_in}
+use Rattle.wire.proofs.Over.{owes-less, owes-last, wrote_nothing, wrote_as, place_in}
 use Rattle.packet.specs.Agreed.{whole_packets}
-use Rattle.packet.proofs.Cutting.{packets_left, left-turn, left-none, left-all, none-whole}
+use Rattle.packet.proofs.Cutting.{left-turn, left-none, left-all, none-whole}
 use Rattle.packet.proofs.put_packets.Goals as goal
 
 pub returns-then-size-le8 : goal.returns-then-size-le8

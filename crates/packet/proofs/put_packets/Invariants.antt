@@ -1,13 +1,11 @@
 -- `packet::put_packets` meets its contract: with the packets from a place on still owed, a turn writes the first of them.
 -- Assumes nothing.
 use Prim.Native.Nat.{◌+◌, ◌-◌, ◌≤◌}
-use mathlib.Core.Path.{◌≡◌, refl, sym}
+use mathlib.Core.Path.{◌≡◌}
 use lib.ListN.{length}
-use native.Mathlib.Omega.{arith}
-use borrow.Author.Rules.{rules}
-use Rattle.wire.proofs.Over.{Owes, owes-less, owes-last, wrote_nothing, wrote_as, place_in}
+use Rattle.wire.proofs.Over.{Owes}
 use Rattle.packet.specs.Agreed.{whole_packets}
-use Rattle.packet.proofs.Cutting.{packets_left, left-turn, left-none, left-all, none-whole}
+use Rattle.packet.proofs.Cutting.{packets_left}
 use Rattle.packet.proofs.put_packets.Given as goal
 
 abbrev pub invariant-loop-from : goal.invariant-loop-from

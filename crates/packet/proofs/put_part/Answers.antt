@@ -1,7 +1,6 @@
 -- `packet::put_part` meets its contract. Assumes nothing.
 use Rattle.wire.proofs.Over.{wrote, then}
 use Rattle.packet.specs.Cut.{part_bytes}
-use borrow.Author.Rules.{rules}
 use Rattle.packet.proofs.put_part.Goals as goal
 
 pub returns : goal.returns

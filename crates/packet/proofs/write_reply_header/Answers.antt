@@ -1,7 +1,6 @@
 -- `packet::write_reply_header` meets its contract. Assumes nothing.
 use Rattle.wire.proofs.Over.{wrote, wrote_as}
 use Rattle.packet.proofs.Sizes.{reply-header}
-use borrow.Author.Rules.{rules}
 use Rattle.packet.proofs.write_reply_header.Goals as goal
 
 pub returns : goal.returns

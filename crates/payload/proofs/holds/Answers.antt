@@ -1,7 +1,5 @@
 -- `payload::holds` meets its contract. Assumes nothing.
 use mathlib.Core.Path.{sym, ◌∙◌}
-use borrow.Author.Tests.{not-true, not-false}
-use borrow.Author.Rules.{rules}
 use Rattle.payload.proofs.holds.Goals as goal
 
 pub returns-then-not-lies : goal.returns-then-not-lies

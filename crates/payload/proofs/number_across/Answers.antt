@@ -1,11 +1,8 @@
 -- `payload::number_across` meets its contract. Assumes nothing.
 use mathlib.Core.Path.{sym, ◌∙◌}
-use Prim.Native.Nat.{◌-◌}
 use native.Mathlib.Omega.{arith}
-use borrow.Author.Tests.{not-true, not-false}
 use Rattle.payload.proofs.Reach.{byte-within}
-use Rattle.payload.proofs.CodeNumbers.{Across, across-nowhere, across-begins, across-past, across-more, across-room, across-ends}
-use borrow.Author.Rules.{rules}
+use Rattle.payload.proofs.CodeNumbers.{across-nowhere, across-begins, across-past, across-more, across-room, across-ends}
 use Rattle.payload.proofs.number_across.Goals as goal
 
 pub returns-then-not-lies : goal.returns-then-not-lies

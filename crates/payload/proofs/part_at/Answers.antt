@@ -2,7 +2,6 @@
 use mathlib.Core.Path.{sym, ◌∙◌}
 use native.Mathlib.Omega.{arith}
 use Rattle.payload.proofs.Reach.{part-past, part-reached, part_held, reach-long, held-within}
-use borrow.Author.Rules.{rules}
 use Rattle.payload.proofs.part_at.Goals as goal
 use Rattle.payload.proofs.part_at.Goals.{then-not-holds+in_default, else-not-holds}
 

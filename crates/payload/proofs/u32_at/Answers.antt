@@ -1,7 +1,6 @@
 -- `payload::u32_at` meets its contract. Assumes nothing.
 use native.Mathlib.Omega.{arith}
 use Rattle.payload.proofs.Reach.{held-within, number-held}
-use borrow.Author.Rules.{rules}
 use Rattle.payload.proofs.u32_at.Goals as goal
 
 pub overflow_mul-frame : goal.overflow_mul-frame

@@ -4,7 +4,6 @@ use Prim.Native.Nat.{◌+◌, ◌*◌}
 use native.Mathlib.Omega.{arith}
 use Rattle.payload.proofs.Reach.{held-within, number-held}
 use Rattle.wire.proofs.Le.{le-one}
-use borrow.Author.Rules.{rules}
 use Rattle.payload.proofs.u8_at.Goals as goal
 
 pub overflow_mul-frame : goal.overflow_mul-frame

@@ -1,7 +1,6 @@
 -- `payload::worth` meets its contract. Assumes nothing.
 use native.Mathlib.Omega.{arith}
 use Rattle.payload.proofs.CodeNumbers.{shifted}
-use borrow.Author.Rules.{rules}
 use Rattle.payload.proofs.worth.Goals as goal
 
 pub returns : goal.returns

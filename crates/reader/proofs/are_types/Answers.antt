@@ -1,7 +1,6 @@
 -- `reader::are_types` meets its contract. Assumes nothing.
 use mathlib.Core.Path.{◌≡◌, refl, sym, ap, ◌∙◌}
 use native.Mathlib.Omega.{arith}
-use Prim.Native.Nat.{◌-◌, ◌≤◌}
 use Rattle.reader.proofs.CodePositions.{held_next, held-past}
 use Rattle.reader.specs.Positions.{held}
 use borrow.Author.Rules.{rules}

@@ -1,10 +1,7 @@
 -- `reader::are_types` meets its contract. Assumes nothing.
-use mathlib.Core.Path.{◌≡◌, refl, sym, ap, ◌∙◌}
-use native.Mathlib.Omega.{arith}
+use mathlib.Core.Path.{◌≡◌}
 use Prim.Native.Nat.{◌-◌, ◌≤◌}
-use Rattle.reader.proofs.CodePositions.{held_next, held-past}
 use Rattle.reader.specs.Positions.{held}
-use borrow.Author.Rules.{rules}
 use Rattle.reader.proofs.are_types.Given as goal
 
 abbrev pub invariant-loop-i : goal.invariant-loop-i

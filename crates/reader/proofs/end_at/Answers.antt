@@ -1,7 +1,6 @@
 -- `reader::end_at` meets its contract. Assumes nothing.
 use mathlib.Core.Path.{sym, ◌∙◌}
 use Rattle.reader.proofs.CodeSteps.{end-left, end-over, end-stopped}
-use borrow.Author.Rules.{rules}
 use Rattle.reader.proofs.end_at.Goals as goal
 
 pub returns-then-n-eq-CUT : goal.returns-then-n-eq-CUT

@@ -1,9 +1,7 @@
 -- `reader::got_at` meets its contract. Assumes nothing.
 use mathlib.Core.Path.{sym, ◌∙◌}
-use borrow.Author.Tests.{not-true, not-false}
 use Rattle.reader.proofs.CodeSteps.{no_place, no-stand, at-end, at-refusal, token-within, at-token}
 use Rattle.reader.proofs.CodeTokens.{token-is, token-is-not}
-use borrow.Author.Rules.{rules}
 use Rattle.reader.proofs.got_at.Goals as goal
 
 pub returns-then-not-stands : goal.returns-then-not-stands

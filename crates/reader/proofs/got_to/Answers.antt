@@ -3,7 +3,6 @@ use mathlib.Core.Path.{sym, ap}
 use native.Mathlib.Omega.{arith}
 use Rattle.payload.proofs.Reach.{frame-within}
 use Rattle.reader.specs.Spots.{got_in}
-use borrow.Author.Rules.{rules}
 use Rattle.reader.proofs.got_to.Goals as goal
 
 pub overflow_add-result : goal.overflow_add-result

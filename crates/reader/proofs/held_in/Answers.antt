@@ -2,7 +2,6 @@
 use native.Mathlib.Omega.{arith}
 use Prim.Native.Nat.{◌-◌}
 use lib.ListN.{get_or-eq_default}
-use borrow.Author.Rules.{rules}
 use Rattle.reader.proofs.held_in.Goals as goal
 
 pub returns-then-i-lt-MAX_COLUMNS : goal.returns-then-i-lt-MAX_COLUMNS

@@ -3,7 +3,6 @@ use mathlib.Core.Path.{sym, ap, ◌∙◌}
 use borrow.Author.Tests.{le-ltb, lt-ltb}
 use Rattle.payload.proofs.CodeReads.{if-so, if-not}
 use Rattle.reader.specs.Code.{token_read}
-use borrow.Author.Rules.{rules}
 use Rattle.reader.proofs.next_at.Goals as goal
 
 pub returns-then-at-gt0 : goal.returns-then-at-gt0

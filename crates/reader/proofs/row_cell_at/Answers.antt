@@ -3,7 +3,6 @@ use mathlib.Core.Path.{sym, ap}
 use Rattle.payload.proofs.CodeReads.{then-got, then-not}
 use Rattle.cells.proofs.CodeReads.{cell-is, cell-is-not}
 use Rattle.reader.specs.Code.{token_read}
-use borrow.Author.Rules.{rules}
 use Rattle.reader.proofs.row_cell_at.Goals as goal
 
 pub returns-in-Refused : goal.returns-in-Refused

@@ -1,6 +1,5 @@
 -- `reader::spot_after` meets its contract. Assumes nothing.
 use Rattle.reader.specs.Positions.{after}
-use borrow.Author.Rules.{rules}
 use Rattle.reader.proofs.spot_after.Goals as goal
 
 pub returns-in-ColMetadata : goal.returns-in-ColMetadata

@@ -3,7 +3,6 @@ use mathlib.Core.Path.{sym, ap, ◌∙◌}
 use native.Mathlib.Omega.{arith}
 use Rattle.request.specs.declared.Headers.TheVariants.{Length}
 use Rattle.request.proofs.Blocks.{is-short, is-small, is-past, is-length}
-use borrow.Author.Rules.{rules}
 use Rattle.request.proofs.all_headers.Goals as goal
 
 pub returns-then-body-lt4 : goal.returns-then-body-lt4

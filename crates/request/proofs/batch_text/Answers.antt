@@ -1,9 +1,7 @@
 -- `request::batch_text` meets its contract. Assumes nothing.
 use Rattle.request.proofs.Sql.{sql-is, sql-long, sql-count, sql-in}
-use borrow.Author.Tests.{not-true, not-false}
 use native.Mathlib.Omega.{arith}
 use Rattle.request.specs.Batch.{batch_text}
-use borrow.Author.Rules.{rules}
 use Rattle.request.proofs.batch_text.Goals as goal
 
 pub overflow_mul-even : goal.overflow_mul-even

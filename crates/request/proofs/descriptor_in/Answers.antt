@@ -1,10 +1,7 @@
 -- `request::descriptor_in` meets its contract. The loop's invariant: the block has the descriptor that its headers from `at` on have.
 -- Assumes nothing.
 use Rattle.request.proofs.Blocks.{header_at, cut_at, small_at, long-at}
-use Rattle.request.specs.Transaction.{descriptor_in}
-use Prim.Native.Nat.{◌-◌, ◌≤◌}
-use mathlib.Core.Path.{◌≡◌, refl, sym, ◌∙◌}
-use lib.ListN.{length, drop}
+use mathlib.Core.Path.{refl, sym, ◌∙◌}
 use native.Mathlib.Omega.{arith}
 use borrow.Author.Rules.{rules}
 use Rattle.request.proofs.descriptor_in.Goals as goal

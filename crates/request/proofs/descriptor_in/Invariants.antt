@@ -1,12 +1,9 @@
 -- `request::descriptor_in` meets its contract. The loop's invariant: the block has the descriptor that its headers from `at` on have.
 -- Assumes nothing.
-use Rattle.request.proofs.Blocks.{header_at, cut_at, small_at, long-at}
 use Rattle.request.specs.Transaction.{descriptor_in}
 use Prim.Native.Nat.{◌-◌, ◌≤◌}
-use mathlib.Core.Path.{◌≡◌, refl, sym, ◌∙◌}
+use mathlib.Core.Path.{◌≡◌}
 use lib.ListN.{length, drop}
-use native.Mathlib.Omega.{arith}
-use borrow.Author.Rules.{rules}
 use Rattle.request.proofs.descriptor_in.Given as goal
 
 abbrev pub invariant-loop-at : goal.invariant-loop-at

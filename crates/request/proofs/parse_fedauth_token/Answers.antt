@@ -5,7 +5,6 @@ use Rattle.wire.specs.Le.{le_at}
 use lib.ListN.{length, drop}
 use Rattle.request.specs.FedAuth.{fed_auth_token}
 use Prim.Native.Nat.{◌+◌}
-use borrow.Author.Rules.{rules}
 use Rattle.request.proofs.parse_fedauth_token.Goals as goal
 
 pub returns-then-payload-lt8 : goal.returns-then-payload-lt8

@@ -1,13 +1,10 @@
 -- `request::parse_sql_batch` meets its contract. Assumes nothing.
 use Rattle.request.proofs.Blocks.{block_in}
-use mathlib.Core.Path.{◌≡◌, sym, ◌∙◌}
+use mathlib.Core.Path.{sym, ◌∙◌}
 use borrow.Author.Tests.{eq-eqb, ne_eqb}
 use native.Mathlib.Omega.{arith}
 use lib.ListN.{length}
 use Rattle.request.specs.Batch.{sql_batch}
-use Rattle.request.specs.Headers.{all_headers}
-use Rattle.request.specs.declared.Headers.TheVariants.{Length}
-use borrow.Author.Rules.{rules}
 use Rattle.request.proofs.parse_sql_batch.Goals as goal
 
 pub returns-then-body-eq0 : goal.returns-then-body-eq0

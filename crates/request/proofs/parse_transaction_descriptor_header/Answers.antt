@@ -1,16 +1,11 @@
 -- `request::parse_transaction_descriptor_header` meets its contract. Assumes nothing.
 -- the length that the headers have, and where the block lies
 use native.Mathlib.Omega.{arith}
-use lib.ListN.{length}
-use Prim.Native.Nat.{◌≤◌}
 use mathlib.Core.Path.{◌≡◌, refl, sym, ◌∙◌}
 use borrow.Enum.Refused.{opened}
 use Rattle.request.specs.Transaction.{transaction_descriptor, descriptor_after}
 use Rattle.request.proofs.Blocks.{block_in, no_block}
-use Rattle.request.specs.Headers.{all_headers}
-use Rattle.request.specs.declared.Headers.TheVariants.{Length}
 use Rattle.request.specs.declared.Descriptor.TheVariants.{Missing}
-use borrow.Author.Rules.{rules}
 use Rattle.request.proofs.parse_transaction_descriptor_header.Goals as goal
 
 pub slice_bounds-descriptor_in-count : goal.slice_bounds-descriptor_in-count

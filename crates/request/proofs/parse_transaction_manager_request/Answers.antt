@@ -5,12 +5,9 @@ use borrow.Author.Tests.{lt-ltb, le-ltb}
 use native.Mathlib.Omega.{arith}
 use lib.ListN.{length}
 use Rattle.request.specs.Transaction.{transaction_request, type_after}
-use Rattle.request.specs.Headers.{all_headers}
 use Rattle.request.proofs.Blocks.{cut-block}
 use Rattle.refusals.specs.Numbers.{no_transaction_type}
 use Rattle.request.specs.declared.TransactionRequest.TheVariants.{Refused}
-use Rattle.request.specs.declared.Headers.TheVariants.{Length}
-use borrow.Author.Rules.{rules}
 use Rattle.request.proofs.parse_transaction_manager_request.Goals as goal
 
 pub returns-then-left-lt2 : goal.returns-then-left-lt2

@@ -5,7 +5,6 @@ use Rattle.wire.specs.Fields.{flat}
 use Rattle.packet.specs.Reply.{packet_of, reply_header}
 use Rattle.token.specs.Tokens.{token_bytes}
 use Rattle.response.specs.Replies.{attention_reply}
-use borrow.Author.Rules.{rules}
 use Rattle.response.proofs.build_attention_ack_packet.Goals as goal
 
 pub returns : goal.returns

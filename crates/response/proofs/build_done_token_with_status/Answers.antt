@@ -4,7 +4,6 @@ use native.Mathlib.Omega.{arith}
 use Rattle.token.proofs.Sizes.{size-done}
 use Rattle.response.proofs.Ends.{refused, wrote}
 use Rattle.response.specs.Replies.{done_reply}
-use borrow.Author.Rules.{rules}
 use Rattle.wire.proofs.Over.{wrote as wrote_both}
 use Rattle.response.proofs.build_done_token_with_status.Goals as goal
 

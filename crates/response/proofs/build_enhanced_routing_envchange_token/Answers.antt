@@ -1,7 +1,6 @@
 -- `response::build_enhanced_routing_envchange_token` meets its contract. Assumes nothing.
 use Rattle.response.specs.Lists.{route_bytes}
 use Rattle.response.specs.Replies.{database_route_reply}
-use borrow.Author.Rules.{rules}
 use Rattle.response.proofs.build_enhanced_routing_envchange_token.Goals as goal
 
 pub returns : goal.returns

@@ -8,7 +8,6 @@ use Rattle.wire.specs.Fields.{flat}
 use Rattle.token.specs.Tokens.{done, token_bytes}
 use Rattle.response.proofs.Lengths.{error-size}
 use Rattle.response.specs.Replies.{error_reply, error_fields}
-use borrow.Author.Rules.{rules}
 use Rattle.response.proofs.build_error_response.Goals as goal
 
 pub returns-then-found-ne-NONE : goal.returns-then-found-ne-NONE

@@ -5,7 +5,6 @@ use native.Mathlib.Omega.{arith}
 use Rattle.response.proofs.Measuring.{fault-of, size_of, small_of}
 use Rattle.response.proofs.Ends.{refused, wrote}
 use Rattle.response.specs.Replies.{features_reply}
-use borrow.Author.Rules.{rules}
 use Rattle.response.proofs.build_feature_ext_ack.Goals as goal
 
 pub overflow_add-list : goal.overflow_add-list

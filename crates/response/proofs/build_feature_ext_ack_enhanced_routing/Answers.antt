@@ -3,7 +3,6 @@ use Rattle.response.specs.Lists.{first_fault, feature_fault}
 use Rattle.script.specs.Records.{records, parse}
 use Rattle.wire.specs.Le.{le_at}
 use Rattle.response.specs.Replies.{routing_ack_reply, features_reply, feature_ack}
-use borrow.Author.Rules.{rules}
 use Rattle.response.proofs.build_feature_ext_ack_enhanced_routing.Goals as goal
 
 pub returns : goal.returns

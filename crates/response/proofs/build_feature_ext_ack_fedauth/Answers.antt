@@ -3,7 +3,6 @@ use Rattle.wire.specs.Le.{le, le_at}
 use Rattle.wire.specs.Fields.{flat}
 use Rattle.response.specs.Lists.{feature_ext_ack, all_bytes, feature_bytes}
 use Rattle.response.specs.Replies.{fedauth_ack_reply, feature_ack}
-use borrow.Author.Rules.{rules}
 use Rattle.response.proofs.build_feature_ext_ack_fedauth.Goals as goal
 
 pub returns : goal.returns

@@ -4,7 +4,6 @@ use native.Mathlib.Omega.{arith}
 use Rattle.response.proofs.Ends.{sent, unsent, within}
 use Rattle.wire.proofs.Over.{wrote, then, wrote_as}
 use Rattle.response.specs.Replies.{challenge_reply}
-use borrow.Author.Rules.{rules}
 use Rattle.response.proofs.build_fedauth_challenge_response.Goals as goal
 
 pub returns-then-found-ne-NONE : goal.returns-then-found-ne-NONE

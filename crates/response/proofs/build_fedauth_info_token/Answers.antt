@@ -2,7 +2,6 @@
 use native.Mathlib.Omega.{arith}
 use Rattle.response.proofs.Ends.{refused, wrote}
 use Rattle.response.specs.Replies.{fedauth_info_reply}
-use borrow.Author.Rules.{rules}
 use Rattle.response.proofs.build_fedauth_info_token.Goals as goal
 
 pub returns-then-found-ne-NONE : goal.returns-then-found-ne-NONE

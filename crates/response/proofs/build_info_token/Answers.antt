@@ -3,7 +3,6 @@ use native.Mathlib.Omega.{arith}
 use Rattle.token.proofs.Sizes.{size-message}
 use Rattle.response.proofs.Ends.{refused, wrote}
 use Rattle.response.specs.Replies.{info_reply}
-use borrow.Author.Rules.{rules}
 use Rattle.wire.proofs.Over.{wrote as wrote_both}
 use Rattle.response.proofs.build_info_token.Goals as goal
 

@@ -5,7 +5,6 @@ use Rattle.wire.specs.Be.{be}
 use Rattle.wire.specs.Fields.{flat}
 use Rattle.text.specs.Units.{units_of, units}
 use Rattle.response.specs.Login.{login_ack_token, wide}
-use borrow.Author.Rules.{rules}
 use Rattle.response.proofs.build_login_ack.Goals as goal
 
 pub returns : goal.returns

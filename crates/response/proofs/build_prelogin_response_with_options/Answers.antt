@@ -4,7 +4,6 @@ use Rattle.wire.specs.Be.{be}
 use Rattle.wire.specs.Fields.{flat}
 use Rattle.packet.specs.Reply.{packet_of, reply_header}
 use Rattle.response.specs.Replies.{prelogin_reply}
-use borrow.Author.Rules.{rules}
 use Rattle.response.proofs.build_prelogin_response_with_options.Goals as goal
 
 pub returns-then-supports_encryption : goal.returns-then-supports_encryption

@@ -3,7 +3,6 @@ use Rattle.response.proofs.Firsts.{no_more}
 use Rattle.text.specs.Arguments.{text_fault}
 use Rattle.response.specs.Lists.{route_bytes}
 use Rattle.response.specs.Replies.{route_reply}
-use borrow.Author.Rules.{rules}
 use Rattle.response.proofs.build_routing_envchange_token.Goals as goal
 
 pub returns : goal.returns

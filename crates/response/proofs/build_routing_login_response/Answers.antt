@@ -5,7 +5,6 @@ use Rattle.response.proofs.Ends.{sent, unsent, within}
 use Rattle.script.specs.Records.{records}
 use Rattle.response.proofs.Lengths.{routed-same}
 use Rattle.response.specs.Replies.{routing_login_reply}
-use borrow.Author.Rules.{rules}
 use Rattle.wire.proofs.Over.{wrote}
 use Rattle.response.proofs.build_routing_login_response.Goals as goal
 

@@ -2,7 +2,6 @@
 use Rattle.script.specs.Records.{records, parse}
 use Rattle.wire.specs.Le.{le_at}
 use Rattle.response.specs.Replies.{routing_reply}
-use borrow.Author.Rules.{rules}
 use Rattle.response.proofs.build_routing_response.Goals as goal
 
 pub returns : goal.returns

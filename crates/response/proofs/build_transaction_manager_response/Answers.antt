@@ -4,7 +4,6 @@ use Rattle.wire.specs.Fields.{flat}
 use Rattle.token.specs.Tokens.{token_bytes}
 use borrow.Author.Tests.{ne_eqb}
 use Rattle.response.specs.Replies.{transaction_reply, done_reply}
-use borrow.Author.Rules.{rules}
 use Rattle.response.proofs.build_transaction_manager_response.Goals as goal
 
 pub returns-then-request_type-eq-TM_BEGIN_XACT : goal.returns-then-request_type-eq-TM_BEGIN_XACT

@@ -1,11 +1,7 @@
 -- `response::cut_payload` meets its contract. Assumes nothing.
 -- a size that can be agreed
-use mathlib.Core.Path.{◌≡◌, sym, ◌∙◌}
-use mathlib.Core.Bool.{true}
-use Prim.Native.Nat.{◌≤◌}
+use mathlib.Core.Path.{sym, ◌∙◌}
 use native.Mathlib.Omega.{arith}
-use borrow.Author.Tests.{not-true, not-false}
-use Rattle.packet.specs.Agreed.{is_packet_size}
 use Rattle.packet.proofs.Counts.{size-bounds}
 use Rattle.response.proofs.InPackets.{wrong_size, too_long, too_short, written}
 use borrow.Author.Rules.{rules}

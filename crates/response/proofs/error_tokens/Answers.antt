@@ -7,7 +7,6 @@ use mathlib.Core.List.{[]}
 use lib.ListN.{length-append}
 use Rattle.token.specs.Tokens.{done, message, token_bytes}
 use Rattle.response.specs.Replies.{error_tokens_reply}
-use borrow.Author.Rules.{rules}
 use Rattle.wire.proofs.Over.{wrote as wrote_both}
 use Rattle.response.proofs.error_tokens.Goals as goal
 

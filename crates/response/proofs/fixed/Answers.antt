@@ -1,7 +1,6 @@
 -- `response::fixed` meets its contract. Assumes nothing.
 use mathlib.Core.Path.{refl}
 use Rattle.response.proofs.Ends.{refused, wrote}
-use borrow.Author.Rules.{rules}
 use Rattle.wire.proofs.Over.{wrote as wrote_both}
 use Rattle.response.proofs.fixed.Goals as goal
 

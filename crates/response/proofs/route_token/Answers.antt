@@ -2,7 +2,6 @@
 use native.Mathlib.Omega.{arith}
 use Rattle.response.proofs.Ends.{refused, wrote}
 use Rattle.response.proofs.Lengths.{route-size}
-use borrow.Author.Rules.{rules}
 use Rattle.response.proofs.route_token.Goals as goal
 
 pub returns-then-found-ne-NONE : goal.returns-then-found-ne-NONE

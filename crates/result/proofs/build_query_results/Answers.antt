@@ -2,7 +2,6 @@
 use mathlib.Core.Path.{sym, ◌∙◌}
 use Rattle.wire.proofs.Over.{wrote, place_in}
 use Rattle.result.proofs.Builds.{short-answer, short-buffer, refused-answer, refused-buffer, written-answer, written-buffer}
-use borrow.Author.Rules.{rules}
 use Rattle.result.proofs.build_query_results.Goals as goal
 
 pub returns-then-buf-length : goal.returns-then-buf-length

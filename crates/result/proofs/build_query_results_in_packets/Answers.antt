@@ -1,15 +1,8 @@
 -- `result::build_query_results_in_packets` meets its contract. Assumes nothing.
 -- a script of a length
-use mathlib.Core.Path.{◌≡◌, sym, ◌∙◌}
-use mathlib.Core.Bool.{true}
-use mathlib.Core.List.{List}
-use Prim.Native.Nat.{ℕ, ◌≤◌}
+use mathlib.Core.Path.{sym, ◌∙◌}
 use native.Mathlib.Omega.{arith}
-use borrow.Author.Tests.{not-true, not-false}
-use Rattle.packet.specs.Agreed.{is_packet_size}
 use Rattle.packet.proofs.Counts.{size-bounds}
-use Rattle.emission.specs.declared.Measure.TheVariants.{Size}
-use Rattle.emission.specs.Length.{measure_of}
 use Rattle.result.proofs.InPackets
 use borrow.Author.Rules.{rules}
 use Rattle.result.proofs.build_query_results_in_packets.Goals as goal

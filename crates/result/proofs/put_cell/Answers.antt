@@ -7,7 +7,6 @@ use Rattle.emission.specs.Emission.{value_cell}
 use Rattle.emission.proofs.Values.{cell-known, cell-unknown}
 use Rattle.emission.proofs.Turns.{goes-here}
 use Rattle.result.proofs.Writes.{put_one, put-none}
-use borrow.Author.Rules.{rules}
 use Rattle.result.proofs.put_cell.Goals as goal
 
 pub returns-in-Known : goal.returns-in-Known

@@ -7,7 +7,6 @@ use Rattle.emission.specs.declared.Run.{Run}
 use Rattle.emission.specs.Runs.{run_of}
 use Rattle.result.proofs.Writes.{put-long}
 use Rattle.emission.proofs.Turns.{goes-chunks}
-use borrow.Author.Rules.{rules}
 use Rattle.wire.proofs.Over.{wrote}
 use Rattle.result.proofs.put_chunked.Goals as goal
 

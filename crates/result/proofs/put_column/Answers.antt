@@ -2,7 +2,6 @@
 use Rattle.emission.specs.Emission.{column_token}
 use Rattle.emission.proofs.Values.{column-known, column-unknown}
 use Rattle.result.proofs.Writes.{put_one, put-none}
-use borrow.Author.Rules.{rules}
 use Rattle.wire.proofs.Over.{wrote}
 use Rattle.result.proofs.put_column.Goals as goal
 

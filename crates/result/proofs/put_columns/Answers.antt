@@ -3,11 +3,9 @@
 use borrow.Enum.Refused.{opened}
 use Rattle.script.proofs.Stops.{stops}
 use Rattle.emission.proofs.Aheads.{ahead-other, ahead-cut, ahead-end}
-use Rattle.wire.proofs.Over.{wrote, wrote_nothing, place_in, Owes, owes-less, owes-last}
+use Rattle.wire.proofs.Over.{wrote, wrote_nothing, place_in, owes-less, owes-last}
 use Rattle.result.proofs.Writes.{columns_left, columns-more, columns-none}
-use Prim.Native.Nat.{ℕ, ◌+◌, ◌-◌, ◌≤◌}
-use lib.ListN.{length}
-use mathlib.Core.List.{List}
+use Prim.Native.Nat.{ℕ, ◌+◌}
 use Rattle.script.specs.declared.Found.TheVariants.{Record}
 use Rattle.script.specs.Records.{record_at}
 use Rattle.script.proofs.Walk

@@ -1,18 +1,10 @@
 -- `result::put_columns` meets its contract. Assumes nothing.
 -- the record at the place, and where it lies
-use Rattle.script.proofs.Stops.{stops}
-use Rattle.emission.proofs.Aheads.{ahead-other, ahead-cut, ahead-end}
-use Rattle.wire.proofs.Over.{wrote, wrote_nothing, place_in, Owes, owes-less, owes-last}
-use Rattle.result.proofs.Writes.{columns_left, columns-more, columns-none}
-use Prim.Native.Nat.{ℕ, ◌+◌, ◌-◌, ◌≤◌}
+use Rattle.wire.proofs.Over.{Owes}
+use Rattle.result.proofs.Writes.{columns_left}
+use Prim.Native.Nat.{◌-◌, ◌≤◌}
 use lib.ListN.{length}
-use mathlib.Core.List.{List}
-use Rattle.script.specs.declared.Found.TheVariants.{Record}
-use Rattle.script.specs.Records.{record_at}
-use Rattle.script.proofs.Walk
-use mathlib.Core.Path.{◌≡◌, refl, sym, ap, ◌∙◌}
-use native.Mathlib.Omega.{arith}
-use borrow.Author.Rules.{rules}
+use mathlib.Core.Path.{◌≡◌}
 use Rattle.result.proofs.put_columns.Given as goal
 
 abbrev pub invariant-loop-kind : goal.invariant-loop-kind

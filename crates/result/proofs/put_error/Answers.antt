@@ -3,7 +3,6 @@ use Rattle.wire.specs.Over.{Wrote}
 use Rattle.token.specs.Tokens.{token_bytes}
 use Rattle.emission.specs.Emission.{error_token, done_token}
 use Rattle.result.proofs.Writes.{put_two}
-use borrow.Author.Rules.{rules}
 use Rattle.wire.proofs.Over.{wrote}
 use Rattle.result.proofs.put_error.Goals as goal
 

@@ -3,7 +3,6 @@ use native.Mathlib.Omega.{arith}
 use Rattle.emission.specs.Emission.{bytes_in}
 use Rattle.emission.specs.Walk.{walked}
 use Rattle.result.proofs.InPackets.{short, above, cut}
-use borrow.Author.Rules.{rules}
 use Rattle.wire.proofs.Over.{wrote}
 use Rattle.result.proofs.put_in_packets.Goals as goal
 

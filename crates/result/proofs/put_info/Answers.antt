@@ -1,6 +1,4 @@
 -- `result::put_info` meets its contract. Assumes nothing.
-use borrow.Author.Rules.{rules}
-use Rattle.wire.proofs.Over.{wrote}
 use Rattle.result.proofs.put_info.Goals as goal
 
 pub returns : goal.returns

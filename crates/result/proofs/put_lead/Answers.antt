@@ -1,7 +1,5 @@
 -- `result::put_lead` meets its contract. Assumes nothing.
 use Rattle.result.proofs.Writes.{put-none}
-use borrow.Author.Rules.{rules}
-use Rattle.wire.proofs.Over.{wrote}
 use Rattle.result.proofs.put_lead.Goals as goal
 
 pub returns-in-At : goal.returns-in-At

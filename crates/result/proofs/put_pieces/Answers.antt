@@ -1,19 +1,12 @@
 -- `result::put_pieces` meets its contract. Assumes nothing.
 -- the first record, and where it lies
-use mathlib.Core.Path.{◌≡◌, sym, ◌∙◌}
+use mathlib.Core.Path.{sym, ◌∙◌}
 use native.Mathlib.Omega.{arith}
-use Prim.Native.Nat.{ℕ, ◌+◌, ◌≤◌}
-use lib.ListN.{length}
-use mathlib.Core.List.{List}
 use borrow.Enum.Refused.{opened}
-use Rattle.script.specs.declared.Found.TheVariants.{Record}
-use Rattle.script.specs.Records.{record_at}
 use Rattle.script.proofs.Walk
 use Rattle.script.proofs.Stops.{stops}
 use Rattle.emission.proofs.Replies.{walked-first, walked-cut, walked_end}
 use Rattle.result.proofs.Writes.{put-none}
-use borrow.Author.Rules.{rules}
-use Rattle.wire.proofs.Over.{wrote}
 use Rattle.result.proofs.put_pieces.Goals as goal
 
 pub overflow_add-next : goal.overflow_add-next

@@ -8,7 +8,6 @@ use Rattle.emission.specs.Runs.{run_of}
 use Rattle.wire.proofs.Over.{wrote, place_in}
 use Rattle.result.proofs.Writes.{put-begins}
 use Rattle.emission.proofs.Turns.{goes-columns}
-use borrow.Author.Rules.{rules}
 use Rattle.result.proofs.put_set.Goals as goal
 
 pub put_columns-b-requires : goal.put_columns-b-requires

@@ -7,7 +7,6 @@ use Rattle.emission.specs.Walk.{begin_pieces, emit_from}
 use Rattle.emission.specs.Runs.{error_found}
 use Rattle.wire.proofs.Over.{wrote, place_in}
 use Rattle.result.proofs.Writes.{put-pieces}
-use borrow.Author.Rules.{rules}
 use Rattle.result.proofs.put_sets.Goals as goal
 
 pub put_set-set-requires : goal.put_set-set-requires

@@ -2,13 +2,11 @@
 use lib.ListN.{drop}
 use borrow.Author.Tests.{ne_eqb}
 use Rattle.script.specs.Records.{records}
-use Rattle.token.specs.Tokens.{row, cell}
-use Rattle.script.specs.Runs.{ahead}
+use Rattle.token.specs.Tokens.{row}
 use Rattle.emission.specs.Emission.{info_token, done_token, more_status}
 use Rattle.emission.specs.Walk.{begin_pieces, pieces_of}
 use Rattle.result.proofs.Writes.{put_one, put-before, put-none}
 use Rattle.emission.proofs.Turns.{goes-here}
-use borrow.Author.Rules.{rules}
 use Rattle.wire.proofs.Over.{wrote}
 use Rattle.result.proofs.put_turn.Goals as goal
 

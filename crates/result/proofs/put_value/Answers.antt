@@ -4,7 +4,6 @@ use Rattle.script.specs.Records.{records}
 use Rattle.script.specs.Runs.{ahead}
 use Rattle.emission.proofs.Values.{cell-of, chunks-by}
 use Rattle.emission.proofs.Turns.{goes-here}
-use borrow.Author.Rules.{rules}
 use Rattle.wire.proofs.Over.{wrote}
 use Rattle.result.proofs.put_value.Goals as goal
 

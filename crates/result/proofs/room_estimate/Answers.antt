@@ -2,7 +2,6 @@
 use mathlib.Core.Path.{sym, ◌∙◌}
 use mathlib.Core.List.{[]}
 use Rattle.result.proofs.Builds.{room-size, room-refused}
-use borrow.Author.Rules.{rules}
 use Rattle.result.proofs.room_estimate.Goals as goal
 
 pub returns-in-Size : goal.returns-in-Size

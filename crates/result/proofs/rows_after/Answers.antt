@@ -3,7 +3,6 @@ use native.Mathlib.Omega.{arith}
 use Rattle.emission.specs.Walk.{rows_after}
 use borrow.Author.Tests.{ne_eqb}
 use native.Mathlib.Numerals.{add-one}
-use borrow.Author.Rules.{rules}
 use Rattle.result.proofs.rows_after.Goals as goal
 
 pub returns-in-1 : goal.returns-in-1

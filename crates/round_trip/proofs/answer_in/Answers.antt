@@ -2,9 +2,6 @@
 -- Assumes nothing.
 use mathlib.Core.Path.{◌≡◌}
 use native.Mathlib.Omega.{arith}
-use borrow.Author.Rules.{rules}
-use Rattle.reader.specs.Positions.{fresh_position}
-use Rattle.reader.specs.Reader.{answer_of}
 use Rattle.round_trip.proofs.Running.{stepped, last-answer}
 use Rattle.round_trip.proofs.answer_in.Goals as goal
 

@@ -1,11 +1,8 @@
 -- `round_trip::answer_in` meets its contract. The loop's invariant: the answer after as many steps more as are left is the k-th.
 -- Assumes nothing.
 use mathlib.Core.Path.{◌≡◌}
-use native.Mathlib.Omega.{arith}
-use borrow.Author.Rules.{rules}
 use Rattle.reader.specs.Positions.{fresh_position}
 use Rattle.reader.specs.Reader.{answer_of}
-use Rattle.round_trip.proofs.Running.{stepped, last-answer}
 use Rattle.round_trip.proofs.answer_in.Given as goal
 
 abbrev pub invariant-loop-left : goal.invariant-loop-left

@@ -2,7 +2,6 @@
 use native.Mathlib.Omega.{arith}
 use Rattle.round_trip.proofs.Running.{bytes-known, refused-is, refused-back, answered-is, answered-back}
 use Rattle.round_trip.specs.RoundTrip.{single}
-use borrow.Author.Rules.{rules}
 use Rattle.round_trip.proofs.kth_token.Goals as goal
 
 pub returns-in-Refused : goal.returns-in-Refused

@@ -2,7 +2,6 @@
 use native.Mathlib.Omega.{arith}
 use Rattle.round_trip.proofs.Running.{bytes-known, refused-is, refused-back, answered-is, answered-back}
 use Rattle.round_trip.specs.RoundTrip.{sized}
-use borrow.Author.Rules.{rules}
 use Rattle.round_trip.proofs.kth_token_in_packets.Goals as goal
 
 pub returns-in-Refused : goal.returns-in-Refused

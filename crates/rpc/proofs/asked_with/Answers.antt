@@ -1,5 +1,4 @@
 -- `rpc::asked_with` meets its contract. Assumes nothing.
-use borrow.Author.Rules.{rules}
 use Rattle.rpc.proofs.asked_with.Goals as goal
 
 pub returns-then-is_asked : goal.returns-then-is_asked

@@ -13,7 +13,6 @@ use Rattle.payload.proofs.CodeReads.{then-got, then-not}
 use Rattle.rpc.specs.Rpc.{in_head, head_at, call_at, told}
 use Rattle.rpc.proofs.Told.{renamed-got, renamed-not, head-told}
 use Rattle.rpc.proofs.Calls.{parameters-got, parameters-not}
-use borrow.Author.Rules.{rules}
 use Rattle.rpc.proofs.call_at.Goals as goal
 
 -- what the frame of the whole body reads is the body

@@ -1,7 +1,6 @@
 -- `rpc::first_with` meets its contract. Assumes nothing.
 use mathlib.Core.Path.{ap}
 use Rattle.rpc.specs.declared.Statement.TheVariants as Statement
-use borrow.Author.Rules.{rules}
 use Rattle.rpc.proofs.first_with.Goals as goal
 
 pub returns-then-is_first : goal.returns-then-is_first

@@ -5,7 +5,6 @@ use Rattle.payload.proofs.CodeReads.{then-got, then-not, number-got, number-not,
 use Rattle.rpc.specs.Rpc.{head_at}
 use Rattle.rpc.specs.Answers.{head_read}
 use Rattle.rpc.proofs.Told.{procedure-told}
-use borrow.Author.Rules.{rules}
 use Rattle.rpc.proofs.head_at.Goals as goal
 
 pub overflow_cast-result : goal.overflow_cast-result

@@ -5,7 +5,6 @@ use Rattle.payload.proofs.CodeReads.{then-got, then-not, part-is, part-is-not, n
 use Rattle.cells.proofs.CodeReads.{type-is, type-is-not}
 use Rattle.rpc.specs.Rpc.{metadata_at}
 use Rattle.rpc.specs.Answers.{metadata_read}
-use borrow.Author.Rules.{rules}
 use Rattle.rpc.proofs.metadata_at.Goals as goal
 
 pub returns-in-Refused : goal.returns-in-Refused

@@ -4,7 +4,6 @@ use Rattle.payload.proofs.CodeReads.{then-got, then-not}
 use Rattle.rpc.specs.Rpc.{in_metadata, parameter_at}
 use Rattle.rpc.specs.Answers.{parameter_read}
 use Rattle.rpc.proofs.Told.{renamed-got, renamed-not, metadata-told}
-use borrow.Author.Rules.{rules}
 use Rattle.rpc.proofs.parameter_at.Goals as goal
 
 pub returns-in-Refused : goal.returns-in-Refused

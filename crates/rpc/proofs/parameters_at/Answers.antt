@@ -11,11 +11,10 @@ use Rattle.rpc.specs.Rpc.{parameter_at}
 use Rattle.rpc.specs.Answers.{parameter_read}
 use Rattle.rpc.proofs.Told.{parameter-told}
 use Rattle.rpc.proofs.Inside.{parameter-onward}
-use Rattle.rpc.proofs.Walk.{Walked, begins, moves, passes, stops, falls}
-use Prim.Native.Nat.{ℕ, ◌-◌}
+use Rattle.rpc.proofs.Walk.{begins, moves, passes, stops, falls}
+use Prim.Native.Nat.{ℕ}
 use lib.ListN.{length}
 use native.Mathlib.Omega.{arith}
-use borrow.Author.Rules.{rules}
 use Rattle.rpc.proofs.parameters_at.Goals as goal
 use Rattle.rpc.proofs.parameters_at.Goals.{then-count-number, else-count-number}
 

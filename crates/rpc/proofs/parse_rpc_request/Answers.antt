@@ -5,7 +5,6 @@ use Rattle.request.proofs.Blocks.{cut-block}
 use Rattle.rpc.specs.declared.Rpc.TheVariants.{Refused}
 use Rattle.rpc.specs.Rpc.{call_after, told, rpc_of}
 use Rattle.payload.specs.Places.{body_source}
-use borrow.Author.Rules.{rules}
 use Rattle.rpc.proofs.parse_rpc_request.Goals as goal
 
 pub returns-in-Short : goal.returns-in-Short

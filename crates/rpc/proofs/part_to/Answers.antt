@@ -1,5 +1,4 @@
 -- `rpc::part_to` meets its contract. Assumes nothing.
-use borrow.Author.Rules.{rules}
 use Rattle.rpc.proofs.part_to.Goals as goal
 
 pub returns : goal.returns

@@ -5,7 +5,6 @@ use borrow.Author.Tests.{eq-eqb, ne_eqb}
 use Rattle.payload.proofs.CodeReads.{number-got, number-not, part-got, part-not, if-so, if-not, below}
 use Rattle.rpc.specs.Rpc.{procedure_at}
 use Rattle.rpc.specs.Answers.{procedure_read}
-use borrow.Author.Rules.{rules}
 use Rattle.rpc.proofs.procedure_at.Goals as goal
 
 pub returns-in-Refused : goal.returns-in-Refused

@@ -1,5 +1,4 @@
 -- `rpc::runs_statement` meets its contract. Assumes nothing.
-use borrow.Author.Rules.{rules}
 use Rattle.rpc.proofs.runs_statement.Goals as goal
 
 pub returns-in-Number : goal.returns-in-Number

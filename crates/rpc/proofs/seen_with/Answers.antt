@@ -1,5 +1,4 @@
 -- `rpc::seen_with` meets its contract. Assumes nothing.
-use borrow.Author.Rules.{rules}
 use Rattle.rpc.proofs.seen_with.Goals as goal
 
 pub returns : goal.returns

@@ -5,7 +5,6 @@ use native.Mathlib.Omega.{arith}
 use Rattle.payload.proofs.CodeReads.{number-got, number-not, must-hold, must-not, below}
 use Rattle.payload.specs.Answers.{number_read}
 use Rattle.rpc.specs.Rpc.{status_at}
-use borrow.Author.Rules.{rules}
 use Rattle.rpc.proofs.status_at.Goals as goal
 
 pub returns-in-Refused : goal.returns-in-Refused

@@ -1,7 +1,5 @@
 -- `rpc::tell` meets its contract. Assumes nothing.
 use mathlib.Core.Path.{sym, ◌∙◌}
-use borrow.Author.Tests.{not-true, not-false}
-use borrow.Author.Rules.{rules}
 use Rattle.rpc.proofs.tell.Goals as goal
 
 pub returns-then-not-runs_statement : goal.returns-then-not-runs_statement

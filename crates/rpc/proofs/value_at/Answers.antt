@@ -5,7 +5,6 @@ use Rattle.cells.proofs.CodeReads.{cell-is, cell-is-not}
 use Rattle.rpc.specs.Rpc.{in_value, value_at}
 use Rattle.rpc.specs.Answers.{parameter_read}
 use Rattle.rpc.proofs.Told.{renamed-got, renamed-not}
-use borrow.Author.Rules.{rules}
 use Rattle.rpc.proofs.value_at.Goals as goal
 
 pub returns-in-Refused : goal.returns-in-Refused

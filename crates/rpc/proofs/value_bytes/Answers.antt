@@ -1,6 +1,5 @@
 -- `rpc::value_bytes` meets its contract. Assumes nothing.
 use mathlib.Core.Path.{◌∙◌}
-use borrow.Author.Rules.{rules}
 use Rattle.rpc.proofs.value_bytes.Goals as goal
 
 pub returns-in-Number : goal.returns-in-Number

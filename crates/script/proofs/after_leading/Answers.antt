@@ -1,5 +1,4 @@
 -- `script::after_leading` meets its contract. Assumes nothing.
-use borrow.Author.Rules.{rules}
 use Rattle.script.proofs.after_leading.Goals as goal
 
 pub returns : goal.returns

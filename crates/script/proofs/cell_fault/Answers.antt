@@ -1,9 +1,7 @@
 -- `script::cell_fault` meets its contract. Assumes nothing.
 use mathlib.Core.Path.{sym, ◌∙◌}
-use borrow.Author.Tests.{not-true, not-false}
 use Rattle.script.specs.Shape.{shaped, texts_of}
 use Rattle.script.specs.Verdict.{fault_of}
-use borrow.Author.Rules.{rules}
 use Rattle.script.proofs.cell_fault.Goals as goal
 
 pub returns-then-not-is_allowed : goal.returns-then-not-is_allowed

@@ -1,8 +1,6 @@
 -- `script::cell_shaped` meets its contract. Assumes nothing.
-use mathlib.Core.Path.{sym, ◌∙◌}
 use Rattle.script.specs.Shape.{cell_shaped, number_width}
 use Rattle.script.proofs.Values.{no_number_lem, no_text}
-use borrow.Author.Rules.{rules}
 use Rattle.script.proofs.cell_shaped.Goals as goal
 
 pub returns-in-1 : goal.returns-in-1

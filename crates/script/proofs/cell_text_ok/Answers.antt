@@ -1,7 +1,6 @@
 -- `script::cell_text_ok` meets its contract. Assumes nothing.
 use Rattle.script.specs.Verdict.{all_well_formed}
 use borrow.Author.Tests.{eq-eqb, ne_eqb}
-use borrow.Author.Rules.{rules}
 use Rattle.script.proofs.cell_text_ok.Goals as goal
 
 pub returns-then-get_u8-eq5 : goal.returns-then-get_u8-eq5

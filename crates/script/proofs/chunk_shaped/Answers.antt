@@ -2,7 +2,6 @@
 use borrow.Enum.Refused.{opened}
 use Rattle.script.specs.Shape.{chunk_shaped}
 use Rattle.script.proofs.Stages.{any-bytes}
-use borrow.Author.Rules.{rules}
 use Rattle.script.proofs.chunk_shaped.Goals as goal
 
 pub returns-in-TextChunks : goal.returns-in-TextChunks

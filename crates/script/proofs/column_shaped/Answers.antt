@@ -1,6 +1,5 @@
 -- `script::column_shaped` meets its contract. Assumes nothing.
 use Rattle.script.specs.Shape.{column_shaped}
-use borrow.Author.Rules.{rules}
 use Rattle.script.proofs.column_shaped.Goals as goal
 
 pub returns : goal.returns

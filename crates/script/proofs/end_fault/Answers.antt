@@ -1,7 +1,6 @@
 -- `script::end_fault` meets its contract. Assumes nothing.
 use borrow.Enum.Refused.{opened}
 use Rattle.script.proofs.Stages.{has-set}
-use borrow.Author.Rules.{rules}
 use Rattle.script.proofs.end_fault.Goals as goal
 
 pub returns-in-Start : goal.returns-in-Start

@@ -1,7 +1,4 @@
 -- `script::fault` meets its contract. Assumes nothing.
-use mathlib.Core.Path.{sym, ap, ◌∙◌}
-use Rattle.script.specs.Verdict.{fault_of}
-use borrow.Author.Rules.{rules}
 use Rattle.script.proofs.fault.Goals as goal
 
 pub returns-in-4 : goal.returns-in-4

@@ -1,7 +1,6 @@
 -- `script::info_procedure` meets its contract. Assumes nothing.
 use mathlib.Core.Path.{◌∙◌}
 use Rattle.wire.specs.Part.{part_bytes}
-use borrow.Author.Rules.{rules}
 use Rattle.script.proofs.info_procedure.Goals as goal
 
 pub returns : goal.returns

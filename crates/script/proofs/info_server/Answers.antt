@@ -1,7 +1,6 @@
 -- `script::info_server` meets its contract. Assumes nothing.
 use mathlib.Core.Path.{◌∙◌}
 use Rattle.wire.specs.Part.{part_bytes}
-use borrow.Author.Rules.{rules}
 use Rattle.script.proofs.info_server.Goals as goal
 
 pub returns : goal.returns

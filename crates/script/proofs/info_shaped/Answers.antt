@@ -1,6 +1,5 @@
 -- `script::info_shaped` meets its contract. Assumes nothing.
 use Rattle.script.specs.Shape.{info_shaped}
-use borrow.Author.Rules.{rules}
 use Rattle.script.proofs.info_shaped.Goals as goal
 
 pub returns : goal.returns

@@ -4,7 +4,6 @@ use Rattle.script.proofs.Verdicts.{three}
 use Rattle.text.specs.Surrogates.{well_formed}
 use mathlib.Core.Path.{ap, ◌∙◌}
 use Rattle.script.specs.Verdict.{all_well_formed}
-use borrow.Author.Rules.{rules}
 use Rattle.script.proofs.info_texts_ok.Goals as goal
 
 pub returns : goal.returns

@@ -3,7 +3,6 @@ use Rattle.script.proofs.Stages.{in-chunks, or-none, or-more}
 use lib.Dec.{eqb}
 use Rattle.script.specs.declared.Stage.TheVariants.{Leading}
 use Rattle.script.specs.Order.{allowed}
-use borrow.Author.Rules.{rules}
 use Rattle.script.proofs.is_allowed.Goals as goal
 
 pub returns-in-Start : goal.returns-in-Start

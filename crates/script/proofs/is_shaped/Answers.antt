@@ -1,7 +1,6 @@
 -- `script::is_shaped` meets its contract. Assumes nothing.
 use borrow.Author.Tests.{ne_eqb}
 use Rattle.script.specs.Shape.{shaped}
-use borrow.Author.Rules.{rules}
 use Rattle.script.proofs.is_shaped.Goals as goal
 
 pub returns-in-1 : goal.returns-in-1

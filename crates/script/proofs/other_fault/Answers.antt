@@ -1,8 +1,6 @@
 -- `script::other_fault` meets its contract. Assumes nothing.
 use mathlib.Core.Path.{sym, ◌∙◌}
-use borrow.Author.Tests.{not-true, not-false}
 use Rattle.script.specs.Verdict.{fault_of}
-use borrow.Author.Rules.{rules}
 use Rattle.script.proofs.other_fault.Goals as goal
 
 pub returns-then-not-is_allowed : goal.returns-then-not-is_allowed

@@ -1,14 +1,10 @@
 -- `script::record_at` meets its contract. Assumes nothing.
 -- the length and the kind that stand at the place
-use mathlib.Core.Path.{◌≡◌, sym, ◌∙◌}
-use mathlib.Core.List.{List}
+use mathlib.Core.Path.{sym, ◌∙◌}
 use native.Mathlib.Omega.{arith}
-use Prim.Native.Nat.{ℕ, ◌+◌}
-use lib.ListN.{drop}
-use Rattle.wire.specs.Le.{le_at}
+use Prim.Native.Nat.{◌+◌}
 use Rattle.wire.proofs.Le.{le_bytes}
 use Rattle.script.proofs.Walk.{is-left, too_long, record_is}
-use borrow.Author.Rules.{rules}
 use Rattle.script.proofs.record_at.Goals as goal
 
 pub returns-then-heads-at : goal.returns-then-heads-at

@@ -3,7 +3,6 @@ use mathlib.Core.Path.{sym}
 use lib.ListN.{drop_of_length-le}
 use native.Mathlib.Omega.{arith}
 use Rattle.wire.proofs.Parts.{rest-is}
-use borrow.Author.Rules.{rules}
 use Rattle.script.proofs.rest_after.Goals as goal
 
 pub returns-then-p-n : goal.returns-then-p-n

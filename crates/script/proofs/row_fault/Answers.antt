@@ -1,9 +1,8 @@
 -- `script::row_fault` meets its contract. Assumes nothing.
 use mathlib.Core.Path.{sym, ◌∙◌}
-use borrow.Author.Tests.{not-true, not-false, eq-eqb, ne_eqb}
+use borrow.Author.Tests.{eq-eqb, ne_eqb}
 use Rattle.script.specs.Shape.{shaped, texts_of}
 use Rattle.script.specs.Verdict.{all_well_formed, fault_of}
-use borrow.Author.Rules.{rules}
 use Rattle.script.proofs.row_fault.Goals as goal
 
 pub returns-then-not-is_allowed : goal.returns-then-not-is_allowed

@@ -1,15 +1,13 @@
 -- `script::script_fault` meets its contract. Assumes nothing.
 -- the record at the place, and where it lies
-use mathlib.Core.List.{List}
-use Rattle.script.specs.declared.Found.TheVariants.{Record}
 use Rattle.script.specs.declared.Stage.{Stage}
-use Rattle.script.specs.Records.{records, record_at}
+use Rattle.script.specs.Records.{records}
 use Rattle.script.specs.Verdict.{verdict_from, verdict_of}
 use Rattle.script.proofs.Walk
 use Rattle.script.proofs.Verdicts.{verdict-cut, verdict-end, verdict-bad, verdict-next}
-use Prim.Native.Nat.{ℕ, ◌+◌, ◌-◌, ◌≤◌}
-use mathlib.Core.Path.{◌≡◌, refl, sym, ap, ◌∙◌}
-use lib.ListN.{length, drop}
+use Prim.Native.Nat.{◌+◌}
+use mathlib.Core.Path.{refl, sym, ap, ◌∙◌}
+use lib.ListN.{drop}
 use native.Mathlib.Omega.{arith}
 use borrow.Author.Rules.{rules}
 use Rattle.script.proofs.script_fault.Goals as goal

@@ -1,7 +1,6 @@
 -- `script::short_at` meets its contract. Assumes nothing.
 use mathlib.Core.Path.{sym}
 use borrow.Author.Tests.{le-leb, lt-leb}
-use borrow.Author.Rules.{rules}
 use Rattle.script.proofs.short_at.Goals as goal
 
 pub returns-then-s-at : goal.returns-then-s-at

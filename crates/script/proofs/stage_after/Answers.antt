@@ -3,7 +3,6 @@ use mathlib.Core.Path.{ap, ◌∙◌}
 use native.Mathlib.Omega.{arith}
 use Rattle.script.specs.Order.{cell_stage, stage_after}
 use Rattle.script.proofs.Stages.{columns-next, infos-next, trailing-next}
-use borrow.Author.Rules.{rules}
 use Rattle.script.proofs.stage_after.Goals as goal
 
 pub returns-in-3 : goal.returns-in-3

@@ -2,7 +2,6 @@
 use mathlib.Core.Bool.{and-true}
 use mathlib.Core.Path.{◌∙◌}
 use Rattle.script.specs.Verdict.{all_well_formed}
-use borrow.Author.Rules.{rules}
 use Rattle.script.proofs.text_ok.Goals as goal
 
 pub returns : goal.returns

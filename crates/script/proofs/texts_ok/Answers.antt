@@ -2,7 +2,6 @@
 use Rattle.script.specs.Shape.{texts_of}
 use Rattle.script.specs.Verdict.{all_well_formed}
 use borrow.Author.Tests.{ne_eqb}
-use borrow.Author.Rules.{rules}
 use Rattle.script.proofs.texts_ok.Goals as goal
 
 pub returns-in-2 : goal.returns-in-2

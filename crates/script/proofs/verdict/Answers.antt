@@ -1,6 +1,5 @@
 -- `script::verdict` meets its contract. Assumes nothing.
 use Rattle.script.proofs.Verdicts.{answer-none, answer-some}
-use borrow.Author.Rules.{rules}
 use Rattle.script.proofs.verdict.Goals as goal
 
 pub returns-then-number-eq-NONE : goal.returns-then-number-eq-NONE

@@ -2,7 +2,6 @@
 use mathlib.Core.Path.{sym, ◌∙◌}
 use Rattle.station.specs.Answer.{number_of}
 use Rattle.station.specs.Calls.{whitespace_call}
-use borrow.Author.Rules.{rules}
 use Rattle.station.proofs.station_is_whitespace.Goals as goal
 
 pub returns-then-is_whitespace : goal.returns-then-is_whitespace

@@ -2,7 +2,6 @@
 use mathlib.Core.Path.{sym, ap, ◌∙◌}
 use Rattle.station.proofs.Ends.{passed, stopped}
 use Rattle.station.specs.Calls.{header_outcome, header_call}
-use borrow.Author.Rules.{rules}
 use Rattle.station.proofs.station_parse_header.Goals as goal
 
 pub returns-in-Header : goal.returns-in-Header

@@ -3,7 +3,6 @@ use mathlib.Core.Path.{sym, ◌∙◌}
 use borrow.Author.Tests.{ne_eqb}
 use Rattle.station.proofs.Ends.{passed, stopped}
 use Rattle.station.specs.Calls.{text_call}
-use borrow.Author.Rules.{rules}
 use Rattle.station.proofs.station_text.Goals as goal
 
 pub returns-then-fault-ne-NONE : goal.returns-then-fault-ne-NONE

@@ -3,7 +3,6 @@ use mathlib.Core.Path.{sym, ap, ◌∙◌}
 use Rattle.packet.specs.declared.KnownType.{KnownType}
 use Rattle.station.proofs.Ends.{passed, stopped}
 use Rattle.station.specs.Calls.{write_outcome, write_header_call}
-use borrow.Author.Rules.{rules}
 use Rattle.station.proofs.station_write_header.Goals as goal
 
 pub returns-in-Known : goal.returns-in-Known

@@ -1,6 +1,5 @@
 -- `station::tell_header` meets its contract. Assumes nothing.
 use Rattle.station.proofs.Ends.{passed}
-use borrow.Author.Rules.{rules}
 use Rattle.station.proofs.tell_header.Goals as goal
 
 pub returns : goal.returns

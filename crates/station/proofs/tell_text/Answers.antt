@@ -1,7 +1,6 @@
 -- `station::tell_text` meets its contract. Assumes nothing.
 use Rattle.station.proofs.Ends.{passed}
 use Rattle.station.specs.Calls.{text_outcome}
-use borrow.Author.Rules.{rules}
 use Rattle.station.proofs.tell_text.Goals as goal
 
 pub returns : goal.returns

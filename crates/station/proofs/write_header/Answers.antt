@@ -5,7 +5,6 @@ use Rattle.packet.proofs.Sizes.{length-header}
 use Rattle.packet.specs.Header.{header_bytes}
 use Rattle.station.proofs.Ends.{too_few, written}
 use Rattle.station.specs.Calls.{written_header}
-use borrow.Author.Rules.{rules}
 use Rattle.station.proofs.write_header.Goals as goal
 
 pub returns-then-buf-lt-PACKET_HEADER_SIZE : goal.returns-then-buf-lt-PACKET_HEADER_SIZE

@@ -1,6 +1,5 @@
 -- `text::characters` meets its contract. Assumes nothing.
 use Rattle.text.specs.Surrogates.{characters}
-use borrow.Author.Rules.{rules}
 use Rattle.text.proofs.characters.Goals as goal
 
 pub returns : goal.returns

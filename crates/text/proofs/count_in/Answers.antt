@@ -1,5 +1,4 @@
 -- `text::count_in` meets its contract. Assumes nothing.
-use borrow.Author.Rules.{rules}
 use Rattle.text.proofs.count_in.Goals as goal
 
 pub returns-in-Characters : goal.returns-in-Characters

@@ -4,11 +4,9 @@ use Rattle.text.proofs.Scan.{kind_at, no_kind}
 use Rattle.text.specs.declared.Surrogate.{Surrogate}
 use Rattle.text.specs.declared.Surrogate.TheVariants.{Plain, High, Low}
 use mathlib.Core.Logic.{inl, inr, ◌⊎◌}
-use mathlib.Core.List.{List, [], ◌∷◌}
-use Rattle.text.specs.Surrogates.{any_high, surrogates, has_pair}
-use Prim.Native.Nat.{◌+◌, ◌-◌, ◌≤◌}
+use mathlib.Core.List.{List, ◌∷◌}
+use Rattle.text.specs.Surrogates.{any_high, has_pair}
 use mathlib.Core.Path.{◌≡◌, refl, sym, ◌∙◌}
-use lib.ListN.{length, drop}
 use native.Mathlib.Omega.{arith}
 use borrow.Author.Rules.{rules}
 use Rattle.text.proofs.has_pair.Goals as goal

@@ -1,14 +1,11 @@
 -- `text::is_well_formed` meets its contract. The loop's invariant: the text is UTF-16 if the surrogates from `at` on, after a high
 -- one where `high` says so, are in pairs. Assumes nothing.
-use Rattle.text.proofs.Scan.{kind_at, no_kind, after, after-all}
-use Rattle.text.specs.declared.Surrogate.{Surrogate}
-use mathlib.Core.List.{◌∷◌}
-use mathlib.Core.Bool.{Bool}
-use borrow.Author.Tests.{eq-eqb, ne_eqb, not-true, not-false}
-use Prim.Native.Nat.{◌%◌, ◌+◌, ◌-◌, ◌≤◌}
-use Rattle.text.specs.Surrogates.{paired, surrogates, well_formed}
-use mathlib.Core.Path.{◌≡◌, sym, ◌∙◌}
-use lib.ListN.{length, drop}
+use Rattle.text.proofs.Scan.{kind_at, no_kind, after-all}
+use borrow.Author.Tests.{eq-eqb, ne_eqb}
+use Prim.Native.Nat.{◌%◌}
+use Rattle.text.specs.Surrogates.{paired, well_formed}
+use mathlib.Core.Path.{sym, ◌∙◌}
+use lib.ListN.{length}
 use native.Mathlib.Omega.{arith}
 use borrow.Author.Rules.{rules}
 use Rattle.text.proofs.is_well_formed.Goals as goal

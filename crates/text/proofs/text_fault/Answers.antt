@@ -1,11 +1,7 @@
 -- `text::text_fault` meets its contract. Assumes nothing.
-use borrow.Author.Tests.{ne_eqb, eq-eqb, not-true, not-false}
-use mathlib.Core.Path.{◌≡◌, sym, ◌∙◌}
-use native.Mathlib.Omega.{arith}
-use Prim.Native.Nat.{◌%◌}
-use lib.ListN.{length}
+use borrow.Author.Tests.{ne_eqb, eq-eqb}
+use mathlib.Core.Path.{sym, ◌∙◌}
 use Rattle.text.specs.Arguments.{text_fault}
-use borrow.Author.Rules.{rules}
 use Rattle.text.proofs.text_fault.Goals as goal
 
 pub returns-then-text-ne0 : goal.returns-then-text-ne0

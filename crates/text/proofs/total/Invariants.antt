@@ -1,13 +1,10 @@
 -- `text::total` meets its contract. The loop's invariant: what is summed, and the sum over the units from `at` on, are the sum over
 -- the text; at most two are counted for a byte, so the sum fits. Assumes nothing.
 use Rattle.text.specs.Units.{units_of, total}
-use Rattle.text.proofs.Scan.{summed, summed-all}
 use Rattle.text.specs.Inner.{count_in}
 use Prim.Native.Nat.{◌+◌, ◌-◌, ◌*◌, ◌≤◌}
 use mathlib.Core.Path.{◌≡◌}
 use lib.ListN.{length, drop}
-use native.Mathlib.Omega.{arith}
-use borrow.Author.Rules.{rules}
 use Rattle.text.proofs.total.Given as goal
 
 abbrev pub invariant-loop-at : goal.invariant-loop-at

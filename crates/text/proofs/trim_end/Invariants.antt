@@ -1,13 +1,9 @@
 -- `text::trim_end` meets its contract. The loop's invariant: of the first `n` units as many are kept as of all. Assumes nothing.
-use Rattle.text.proofs.Trims.{kept_at, kept-none, kept-all}
-use borrow.Author.Tests.{not-true, not-false}
 use Rattle.text.specs.Units.{units_of}
 use Rattle.text.specs.Trim.{kept}
 use Prim.Native.Nat.{◌/◌, ◌≤◌}
-use mathlib.Core.Path.{◌≡◌, sym, ◌∙◌}
+use mathlib.Core.Path.{◌≡◌}
 use lib.ListN.{length, take}
-use native.Mathlib.Omega.{arith}
-use borrow.Author.Rules.{rules}
 use Rattle.text.proofs.trim_end.Given as goal
 
 abbrev pub invariant-loop-n : goal.invariant-loop-n

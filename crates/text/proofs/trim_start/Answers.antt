@@ -1,14 +1,7 @@
 -- `text::trim_start` meets its contract. The loop's invariant: the white space at the start is the bytes before `at` and the white
 -- space at the start of the rest. Assumes nothing.
 use Rattle.text.proofs.Trims.{lead, lead-none}
-use borrow.Author.Tests.{not-true, not-false}
-use Rattle.text.specs.Units.{units_of}
-use Rattle.text.specs.Trim.{leading}
-use Prim.Native.Nat.{◌+◌, ◌-◌, ◌*◌, ◌≤◌}
-use mathlib.Core.Path.{◌≡◌}
-use lib.ListN.{length, drop}
 use native.Mathlib.Omega.{arith}
-use borrow.Author.Rules.{rules}
 use Rattle.text.proofs.trim_start.Goals as goal
 
 pub returns-then-not-is_whitespace : goal.returns-then-not-is_whitespace

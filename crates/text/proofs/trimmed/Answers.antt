@@ -1,6 +1,5 @@
 -- `text::trimmed` meets its contract. Assumes nothing.
 use Rattle.text.proofs.Trims.{trims}
-use borrow.Author.Rules.{rules}
 use Rattle.text.proofs.trimmed.Goals as goal
 
 pub returns : goal.returns

@@ -1,7 +1,6 @@
 -- `text::unit` meets its contract. Assumes nothing.
 use Rattle.text.proofs.Scan.{unit-at}
 use native.Mathlib.Omega.{arith}
-use borrow.Author.Rules.{rules}
 use Rattle.text.proofs.unit.Goals as goal
 
 pub returns : goal.returns

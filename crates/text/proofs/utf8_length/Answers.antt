@@ -1,6 +1,5 @@
 -- `text::utf8_length` meets its contract. Assumes nothing.
 use Rattle.text.specs.Surrogates.{utf8_length}
-use borrow.Author.Rules.{rules}
 use Rattle.text.proofs.utf8_length.Goals as goal
 
 pub returns : goal.returns

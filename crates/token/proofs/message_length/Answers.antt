@@ -1,7 +1,6 @@
 -- `token::message_length` meets its contract. Assumes nothing.
 use native.Mathlib.Omega.{arith}
 use Rattle.token.specs.Tokens.{message_length}
-use borrow.Author.Rules.{rules}
 use Rattle.token.proofs.message_length.Goals as goal
 
 pub returns : goal.returns

@@ -1,7 +1,6 @@
 -- `token::name_fault` meets its contract. Assumes nothing.
 use borrow.Author.Tests.{lt-ltb, le-ltb}
 use Rattle.token.specs.Names.{name_fault}
-use borrow.Author.Rules.{rules}
 use Rattle.token.proofs.name_fault.Goals as goal
 
 pub returns-then-units-gt-MOST_NAME_UNITS : goal.returns-then-units-gt-MOST_NAME_UNITS

@@ -1,6 +1,5 @@
 -- `token::put_b_varchar` meets its contract. Assumes nothing.
 use Rattle.token.proofs.Puts.{wrote-counted}
-use borrow.Author.Rules.{rules}
 use Rattle.wire.proofs.Over.{wrote}
 use Rattle.token.proofs.put_b_varchar.Goals as goal
 

@@ -1,6 +1,5 @@
 -- `token::put_chunk` meets its contract. Assumes nothing.
 use Rattle.token.proofs.Puts.{wrote-counted}
-use borrow.Author.Rules.{rules}
 use Rattle.wire.proofs.Over.{wrote}
 use Rattle.token.proofs.put_chunk.Goals as goal
 

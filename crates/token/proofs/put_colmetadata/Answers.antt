@@ -3,7 +3,6 @@ use Rattle.wire.proofs.Over.{wrote, then, ended}
 use Rattle.wire.specs.Fields.{flat}
 use Rattle.token.specs.Tokens.{token_bytes}
 use Rattle.token.proofs.Puts.{wrote-low}
-use borrow.Author.Rules.{rules}
 use Rattle.token.proofs.put_colmetadata.Goals as goal
 
 pub returns : goal.returns

@@ -5,7 +5,6 @@ use mathlib.Core.List.{[], ◌∷◌}
 use Rattle.wire.proofs.Fields.{then-fields}
 use Rattle.token.specs.Tokens.{token_bytes, type_fields, b_varchar}
 use Rattle.token.specs.Types.{type_code, type_length}
-use borrow.Author.Rules.{rules}
 use Rattle.token.proofs.put_column.Goals as goal
 
 pub returns : goal.returns

@@ -2,7 +2,6 @@
 use Rattle.wire.proofs.Over.{wrote, then, ended}
 use Rattle.wire.specs.Fields.{flat}
 use Rattle.token.specs.Tokens.{token_bytes}
-use borrow.Author.Rules.{rules}
 use Rattle.token.proofs.put_int.Goals as goal
 
 pub returns : goal.returns

@@ -6,7 +6,6 @@ use mathlib.Core.List.{[], ◌∷◌}
 use Rattle.wire.proofs.Fields.{then-fields}
 use Rattle.token.specs.Tokens.{token_bytes, message_length, message_head, us_varchar, b_varchar}
 use Rattle.token.proofs.Puts.{head-size}
-use borrow.Author.Rules.{rules}
 use Rattle.token.proofs.put_message.Goals as goal
 
 pub returns : goal.returns

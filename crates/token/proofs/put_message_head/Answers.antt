@@ -1,7 +1,6 @@
 -- `token::put_message_head` meets its contract. Assumes nothing.
 use Rattle.wire.proofs.Over.{wrote, then, ended}
 use Rattle.wire.specs.Fields.{flat}
-use borrow.Author.Rules.{rules}
 use Rattle.token.proofs.put_message_head.Goals as goal
 
 pub returns : goal.returns

@@ -1,7 +1,6 @@
 -- `token::put_nvarchar` meets its contract. Assumes nothing.
 use Rattle.token.specs.Tokens.{token_bytes}
 use Rattle.token.proofs.Puts.{wrote-counted}
-use borrow.Author.Rules.{rules}
 use Rattle.wire.proofs.Over.{wrote}
 use Rattle.token.proofs.put_nvarchar.Goals as goal
 

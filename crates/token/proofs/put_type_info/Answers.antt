@@ -1,7 +1,6 @@
 -- `token::put_type_info` meets its contract. Assumes nothing.
 use Rattle.wire.proofs.Over.{wrote, then, ended}
 use Rattle.token.proofs.Puts.{wrote-low, type-fields, width_one, width_two}
-use borrow.Author.Rules.{rules}
 use Rattle.token.proofs.put_type_info.Goals as goal
 
 pub returns-then-code-eq38 : goal.returns-then-code-eq38

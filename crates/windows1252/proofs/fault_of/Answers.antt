@@ -1,8 +1,6 @@
 -- `windows1252::fault_of` meets its contract. Assumes nothing.
 use mathlib.Core.Path.{sym, ◌∙◌}
 use native.Mathlib.Omega.{arith}
-use borrow.Author.Rules.{rules}
-use borrow.Author.Tests.{not-true, not-false}
 use Rattle.windows1252.proofs.CodeWrites.{fault-odd, fault-byte, fault-long, fault-none}
 use Rattle.windows1252.proofs.fault_of.Goals as goal
 

@@ -1,11 +1,6 @@
 -- `windows1252::have_bytes` meets its contract. The loop's invariant: the units from the place on decide. Assumes nothing.
-use Prim.Native.Nat.{◌-◌, ◌≤◌}
-use mathlib.Core.Path.{◌≡◌, refl, sym, ap, ◌∙◌}
-use lib.ListN.{length, drop}
+use mathlib.Core.Path.{refl, sym, ap, ◌∙◌}
 use native.Mathlib.Omega.{arith}
-use borrow.Author.Rules.{rules}
-use borrow.Author.Tests.{not-true, not-false}
-use Rattle.text.specs.Units.{units_of}
 use Rattle.text.proofs.Scan.{unit-at, no-unit}
 use Rattle.windows1252.specs.Table.{table, have_bytes}
 use Rattle.windows1252.proofs.Texts.{have-not, have-one}

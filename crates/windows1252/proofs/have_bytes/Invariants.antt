@@ -1,14 +1,9 @@
 -- `windows1252::have_bytes` meets its contract. The loop's invariant: the units from the place on decide. Assumes nothing.
 use Prim.Native.Nat.{◌-◌, ◌≤◌}
-use mathlib.Core.Path.{◌≡◌, refl, sym, ap, ◌∙◌}
+use mathlib.Core.Path.{◌≡◌}
 use lib.ListN.{length, drop}
-use native.Mathlib.Omega.{arith}
-use borrow.Author.Rules.{rules}
-use borrow.Author.Tests.{not-true, not-false}
 use Rattle.text.specs.Units.{units_of}
-use Rattle.text.proofs.Scan.{unit-at, no-unit}
 use Rattle.windows1252.specs.Table.{table, have_bytes}
-use Rattle.windows1252.proofs.Texts.{have-not, have-one}
 use Rattle.windows1252.proofs.have_bytes.Given as goal
 
 abbrev pub invariant-loop-at : goal.invariant-loop-at

@@ -1,5 +1,4 @@
 -- `windows1252::measured` meets its contract. Assumes nothing.
-use borrow.Author.Rules.{rules}
 use Rattle.windows1252.proofs.CodeReads.{total-cut, null-read, chunks-cut, text-read}
 use Rattle.windows1252.proofs.measured.Goals as goal
 

@@ -1,19 +1,17 @@
 -- `windows1252::put_bytes` meets its contract. The loop's invariant: the bytes of the units from a place on are still to be written.
 -- Assumes nothing.
 -- the unit at the place, and the byte that stands for it
-use Prim.Native.Nat.{ℕ, ◌+◌, ◌-◌, ◌≤◌, ◌<◌}
-use mathlib.Core.Path.{◌≡◌, refl, sym, ap, ◌∙◌}
-use mathlib.Core.Bool.{true}
-use mathlib.Core.List.{List, [], ◌∷◌, ◌++◌}
+use Prim.Native.Nat.{◌+◌, ◌<◌}
+use mathlib.Core.Path.{refl, sym, ap, ◌∙◌}
+use mathlib.Core.List.{[], ◌∷◌}
 use lib.ListN.{length, drop}
 use native.Mathlib.Omega.{arith}
-use borrow.Author.Rules.{rules}
 use Rattle.wire.proofs.Over.{stored}
 use Rattle.text.specs.Units.{units_of}
 use Rattle.text.proofs.Scan.{unit-at, no-unit}
-use Rattle.windows1252.specs.Table.{table, have_bytes, bytes_of, byte_of}
+use Rattle.windows1252.specs.Table.{table, have_bytes, bytes_of}
 use Rattle.windows1252.proofs.Texts.{length-bytes, bytes-turn, bytes-over, have-both}
-use Rattle.windows1252.proofs.Owing.{Owing, owing-all, owing-less, owing-none}
+use Rattle.windows1252.proofs.Owing.{owing-all, owing-less, owing-none}
 use Rattle.windows1252.proofs.put_bytes.Goals as goal
 
 pub loop-from-init : goal.loop-from-init

@@ -1,15 +1,12 @@
 -- `windows1252::put_characters` meets its contract. The loop's invariant: the text of the bytes from the i-th on is still to be written.
 -- Assumes nothing.
-use Prim.Native.Nat.{◌+◌, ◌-◌, ◌*◌, ◌≤◌}
-use mathlib.Core.Path.{◌≡◌, refl, sym, ap, ◌∙◌}
-use mathlib.Core.List.{[], ◌∷◌}
-use lib.ListN.{length, drop, get_or, length-set}
+use mathlib.Core.Path.{refl}
+use lib.ListN.{length-set}
 use native.Mathlib.Omega.{arith}
 use borrow.Author.Rules.{rules}
 use Rattle.wire.proofs.Over.{stored-two}
-use Rattle.windows1252.specs.Table.{unit_of, text_of}
 use Rattle.windows1252.proofs.Texts.{length-text, two_bytes, text-turn, text-over}
-use Rattle.windows1252.proofs.Owing.{Owing, owing-all, owing-less, owing-none}
+use Rattle.windows1252.proofs.Owing.{owing-all, owing-less, owing-none}
 use Rattle.windows1252.proofs.put_characters.Goals as goal
 
 pub loop-i-init : goal.loop-i-init

@@ -1,15 +1,10 @@
 -- `windows1252::put_characters` meets its contract. The loop's invariant: the text of the bytes from the i-th on is still to be written.
 -- Assumes nothing.
 use Prim.Native.Nat.{◌+◌, ◌-◌, ◌*◌, ◌≤◌}
-use mathlib.Core.Path.{◌≡◌, refl, sym, ap, ◌∙◌}
-use mathlib.Core.List.{[], ◌∷◌}
-use lib.ListN.{length, drop, get_or, length-set}
-use native.Mathlib.Omega.{arith}
-use borrow.Author.Rules.{rules}
-use Rattle.wire.proofs.Over.{stored-two}
-use Rattle.windows1252.specs.Table.{unit_of, text_of}
-use Rattle.windows1252.proofs.Texts.{length-text, two_bytes, text-turn, text-over}
-use Rattle.windows1252.proofs.Owing.{Owing, owing-all, owing-less, owing-none}
+use mathlib.Core.Path.{◌≡◌}
+use lib.ListN.{length, drop}
+use Rattle.windows1252.specs.Table.{text_of}
+use Rattle.windows1252.proofs.Owing.{Owing}
 use Rattle.windows1252.proofs.put_characters.Given as goal
 
 abbrev pub invariant-loop-i : goal.invariant-loop-i

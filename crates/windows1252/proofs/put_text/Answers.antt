@@ -1,17 +1,16 @@
 -- `windows1252::put_text` meets its contract. The loop's invariant: the text of the chunks from a place on is still to be written.
 -- Assumes nothing.
-use Prim.Native.Nat.{◌+◌, ◌-◌, ◌*◌, ◌≤◌}
-use mathlib.Core.Path.{◌≡◌, refl, sym, ap, ◌∙◌}
+use Prim.Native.Nat.{◌+◌}
+use mathlib.Core.Path.{refl, sym, ap, ◌∙◌}
 use lib.ListN.{length, take, drop, length-append}
 use native.Mathlib.Omega.{arith}
-use borrow.Author.Rules.{rules}
 use Rattle.wire.specs.Part.{part_bytes}
 use Rattle.wire.proofs.Le.{le-past}
 use Rattle.cells.specs.Values.{joined_from}
 use Rattle.windows1252.specs.Table.{table, text_of}
 use Rattle.windows1252.specs.Labels.{chunks_joined}
 use Rattle.windows1252.proofs.Texts.{length-text, chunk-turn, chunk_end}
-use Rattle.windows1252.proofs.Owing.{Owing, owing-all, owing-less, owing-none}
+use Rattle.windows1252.proofs.Owing.{owing-all, owing-less, owing-none}
 use Rattle.windows1252.proofs.put_text.Goals as goal
 
 pub loop-at-init : goal.loop-at-init

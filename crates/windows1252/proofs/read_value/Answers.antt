@@ -1,6 +1,5 @@
 -- `windows1252::read_value` meets its contract. Assumes nothing.
 use native.Mathlib.Omega.{arith}
-use borrow.Author.Rules.{rules}
 use Rattle.windows1252.proofs.CodeReads.{size-refused, size-null, size-text, ends-refused, ends-null, ends-short, ends-text}
 use Rattle.windows1252.proofs.read_value.Goals as goal
 

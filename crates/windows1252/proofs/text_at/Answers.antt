@@ -1,7 +1,6 @@
 -- `windows1252::text_at` meets its contract. Assumes nothing.
 use native.Mathlib.Omega.{arith}
 use borrow.Author.Tests.{eq-eqb, ne_eqb, le-leb, lt-leb}
-use borrow.Author.Rules.{rules}
 use Rattle.windows1252.proofs.text_at.Goals as goal
 
 pub returns-then-next-value : goal.returns-then-next-value

@@ -1,6 +1,5 @@
 -- `windows1252::value_size` meets its contract. Assumes nothing.
 use borrow.Author.Tests.{eq-eqb, ne_eqb}
-use borrow.Author.Rules.{rules}
 use Rattle.windows1252.proofs.value_size.Goals as goal
 
 pub returns-then-n-eq0 : goal.returns-then-n-eq0

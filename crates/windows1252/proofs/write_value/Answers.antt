@@ -1,9 +1,6 @@
 -- `windows1252::write_value` meets its contract. Assumes nothing.
 use mathlib.Core.Path.{sym, ◌∙◌}
 use native.Mathlib.Omega.{arith}
-use borrow.Author.Rules.{rules}
-use lib.ListN.{length}
-use Rattle.text.specs.Units.{units_of}
 use Rattle.text.proofs.Scan.{length-units}
 use Rattle.windows1252.proofs.CodeWrites.{accepted, ends-refused, ends-short, ends-value}
 use Rattle.windows1252.proofs.write_value.Goals as goal

@@ -1,9 +1,8 @@
 -- `wire::copy` meets its contract. Assumes nothing.
 use Rattle.wire.specs.Over.{overwrite}
 use Rattle.wire.proofs.Over.{over-more, wrote-room}
-use lib.ListN.{length-set, length, take}
-use Prim.Native.Nat.{◌-◌, ◌≤◌}
-use mathlib.Core.Path.{◌≡◌, refl}
+use lib.ListN.{length-set}
+use mathlib.Core.Path.{refl}
 use native.Mathlib.Omega.{arith}
 use borrow.Author.Rules.{rules}
 use Rattle.wire.proofs.copy.Goals as goal

@@ -1,11 +1,8 @@
 -- `wire::copy` meets its contract. Assumes nothing.
 use Rattle.wire.specs.Over.{overwrite}
-use Rattle.wire.proofs.Over.{over-more, wrote-room}
-use lib.ListN.{length-set, length, take}
+use lib.ListN.{length, take}
 use Prim.Native.Nat.{◌-◌, ◌≤◌}
-use mathlib.Core.Path.{◌≡◌, refl}
-use native.Mathlib.Omega.{arith}
-use borrow.Author.Rules.{rules}
+use mathlib.Core.Path.{◌≡◌}
 use Rattle.wire.proofs.copy.Given as goal
 
 abbrev pub invariant-loop-i : goal.invariant-loop-i

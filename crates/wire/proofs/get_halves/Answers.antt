@@ -1,7 +1,6 @@
 -- `wire::get_halves` meets its contract. Assumes nothing.
 use mathlib.Core.Path.{sym}
 use Rattle.wire.proofs.Le.{le_join, le-past}
-use borrow.Author.Rules.{rules}
 use Rattle.wire.proofs.get_halves.Goals as goal
 
 pub returns-then-s-at : goal.returns-then-s-at

@@ -3,7 +3,6 @@ use mathlib.Core.Path.{sym}
 use Rattle.wire.proofs.Be.{be-join, be-past, be-one}
 use Prim.Native.Nat.{◌+◌}
 use lib.ListN.{drop}
-use borrow.Author.Rules.{rules}
 use Rattle.wire.proofs.get_u16.Goals as goal
 
 pub returns-then-s-at : goal.returns-then-s-at

@@ -2,7 +2,6 @@
 use mathlib.Core.Path.{sym, ◌∙◌}
 use native.Mathlib.Omega.{arith}
 use Rattle.wire.proofs.Le.{le-short, le_bytes}
-use borrow.Author.Rules.{rules}
 use Rattle.wire.proofs.get_u16_le.Goals as goal
 
 pub returns-then-left-lt2 : goal.returns-then-left-lt2

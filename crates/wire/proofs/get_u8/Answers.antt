@@ -1,7 +1,6 @@
 -- `wire::get_u8` meets its contract. Assumes nothing.
 use mathlib.Core.Path.{sym}
 use Rattle.wire.proofs.Le.{le-one, le-past}
-use borrow.Author.Rules.{rules}
 use Rattle.wire.proofs.get_u8.Goals as goal
 
 pub returns-then-at-s : goal.returns-then-at-s

@@ -4,7 +4,6 @@ use native.Mathlib.Nat.{add-sub_cancel_left}
 use mathlib.Core.Path.{sym, ◌∙◌}
 use native.Mathlib.Omega.{arith}
 use Rattle.wire.specs.Part.{part_bytes}
-use borrow.Author.Rules.{rules}
 use Rattle.wire.proofs.part_of.Goals as goal
 
 pub returns-then-rest-eq0 : goal.returns-then-rest-eq0

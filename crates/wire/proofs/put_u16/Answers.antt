@@ -4,7 +4,6 @@ use Rattle.wire.specs.Be.{be}
 use mathlib.Core.Path.{sym}
 use Rattle.wire.proofs.Over.{wrote, then, wrote_as}
 use Rattle.wire.proofs.Be.{be-split}
-use borrow.Author.Rules.{rules}
 use Rattle.wire.proofs.put_u16.Goals as goal
 
 pub returns : goal.returns

@@ -6,7 +6,6 @@ use Rattle.wire.proofs.Le.{le_split, length-le}
 use Prim.Native.Nat.{◌/◌, ◌%◌}
 use lib.ListN.{length-set}
 use Rattle.wire.specs.Le.{le}
-use borrow.Author.Rules.{rules}
 use Rattle.wire.proofs.put_u16_le.Goals as goal
 
 pub returns-then-left-lt2 : goal.returns-then-left-lt2

@@ -3,7 +3,6 @@ use native.Mathlib.Omega.{arith}
 use Rattle.wire.proofs.Over.{stored-four}
 use lib.ListN.{length-set}
 use Rattle.wire.specs.Le.{le}
-use borrow.Author.Rules.{rules}
 use Rattle.wire.proofs.put_u32_le.Goals as goal
 
 pub bounds-buf-at-2 : goal.bounds-buf-at-2

@@ -2,7 +2,6 @@
 use mathlib.Core.Path.{sym}
 use Rattle.wire.proofs.Over.{wrote, then, wrote_as}
 use Rattle.wire.proofs.Le.{le_split}
-use borrow.Author.Rules.{rules}
 use Rattle.wire.proofs.put_u64_le.Goals as goal
 
 pub returns : goal.returns

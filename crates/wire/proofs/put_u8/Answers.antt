@@ -3,7 +3,6 @@ use mathlib.Core.Path.{refl}
 use Rattle.wire.proofs.Over.{wrote-out, stored}
 use native.Mathlib.Nat.{mod-eq_of_lt}
 use Rattle.wire.specs.Le.{le}
-use borrow.Author.Rules.{rules}
 use Rattle.wire.proofs.put_u8.Goals as goal
 
 pub returns-then-buf-at : goal.returns-then-buf-at

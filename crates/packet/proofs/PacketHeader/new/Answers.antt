@@ -1,5 +1,4 @@
 -- `packet::PacketHeader::new` meets its contract. Assumes nothing.
-use borrow.Author.Rules.{rules}
 use Rattle.packet.proofs.PacketHeader.new.Goals as goal
 
 pub returns : goal.returns

@@ -6,7 +6,6 @@ use Prim.Native.Nat.{◌≤◌}
 use lib.ListN.{length}
 use Rattle.wire.proofs.Le.{le-one}
 use Rattle.packet.specs.Header.{parsed_of}
-use borrow.Author.Rules.{rules}
 use Rattle.packet.proofs.PacketHeader.parse.Goals as goal
 
 pub returns-then-buf-lt-PACKET_HEADER_SIZE : goal.returns-then-buf-lt-PACKET_HEADER_SIZE

@@ -2,7 +2,6 @@
 use mathlib.Core.Path.{sym}
 use Rattle.wire.proofs.Over.{wrote, then}
 use Rattle.packet.specs.Header.{header_bytes}
-use borrow.Author.Rules.{rules}
 use Rattle.packet.proofs.PacketHeader.write.Goals as goal
 
 pub returns : goal.returns

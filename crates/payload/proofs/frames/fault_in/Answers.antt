@@ -1,7 +1,6 @@
 -- `payload::frames::fault_in` meets its contract. Assumes nothing.
 use mathlib.Core.Path.{sym, ◌∙◌}
 use Rattle.payload.proofs.Walk.{fault-none, fault-next, fault-no-part}
-use borrow.Author.Rules.{rules}
 use Rattle.payload.proofs.frames.fault_in.Goals as goal
 
 pub returns-in-Refused : goal.returns-in-Refused

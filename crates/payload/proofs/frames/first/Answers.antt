@@ -1,7 +1,6 @@
 -- `payload::frames::first` meets its contract. Assumes nothing.
 use mathlib.Core.Path.{sym, ◌∙◌}
 use Rattle.payload.proofs.Onto.{first-empty, first_some, first-packet}
-use borrow.Author.Rules.{rules}
 use Rattle.payload.proofs.frames.first.Goals as goal
 
 pub returns-then-lent-eq0 : goal.returns-then-lent-eq0

@@ -1,7 +1,6 @@
 -- `payload::frames::frame_at` meets its contract. Assumes nothing.
 use mathlib.Core.Path.{◌∙◌}
 use Rattle.payload.proofs.Reach.{frame-within, frame-in, frame_past, at_place}
-use borrow.Author.Rules.{rules}
 use Rattle.payload.proofs.frames.frame_at.Goals as goal
 
 pub returns-then-at-frame : goal.returns-then-at-frame

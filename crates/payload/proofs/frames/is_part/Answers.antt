@@ -1,6 +1,5 @@
 -- `payload::frames::is_part` meets its contract. Assumes nothing.
 use Rattle.payload.specs.Packets.{is_part}
-use borrow.Author.Rules.{rules}
 use Rattle.payload.proofs.frames.is_part.Goals as goal
 
 pub returns : goal.returns

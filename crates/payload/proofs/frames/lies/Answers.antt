@@ -1,12 +1,11 @@
 -- `payload::frames::lies` meets its contract. Assumes nothing.
 use mathlib.Core.Path.{sym}
-use Prim.Native.Nat.{◌+◌, ◌-◌, ◌*◌, ◌<◌}
+use Prim.Native.Nat.{◌+◌, ◌*◌, ◌<◌}
 use native.Mathlib.Omega.{arith}
 use lib.ListN.{length}
 use borrow.Author.Tests.{lt-leb}
 use Rattle.payload.specs.Frames.{lies}
 use Rattle.payload.proofs.CodeReads.{eighths}
-use borrow.Author.Rules.{rules}
 use Rattle.payload.proofs.frames.lies.Goals as goal
 
 pub returns-then-lent-frame : goal.returns-then-lent-frame

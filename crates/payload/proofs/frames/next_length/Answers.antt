@@ -6,7 +6,6 @@ use lib.ListN.{length}
 use borrow.Author.Tests.{lt-leb, le-leb}
 use Rattle.wire.proofs.Le.{le-one}
 use Rattle.payload.specs.Frames.{is_next, next_length}
-use borrow.Author.Rules.{rules}
 use Rattle.payload.proofs.frames.next_length.Goals as goal
 
 pub returns-then-rest-lt-PACKET_HEADER_SIZE : goal.returns-then-rest-lt-PACKET_HEADER_SIZE

@@ -6,7 +6,6 @@ use lib.ListN.{drop}
 use Rattle.payload.proofs.Onto.{lying, moved_by_lem}
 use Rattle.payload.proofs.Walk.{fits}
 use lib.ListN.{length-drop}
-use borrow.Author.Rules.{rules}
 use Rattle.payload.proofs.frames.onward.Goals as goal
 
 pub overflow_add-number : goal.overflow_add-number

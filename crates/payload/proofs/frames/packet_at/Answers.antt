@@ -2,7 +2,6 @@
 use mathlib.Core.Path.{sym}
 use native.Mathlib.Omega.{arith}
 use Rattle.payload.proofs.Walk.{is-over, is-short, is-more, index-fault, index-next, next-size}
-use borrow.Author.Rules.{rules}
 use Rattle.payload.proofs.frames.packet_at.Goals as goal
 
 pub returns-then-ended : goal.returns-then-ended

@@ -1,8 +1,6 @@
 -- `payload::frames::reach` meets its contract. Assumes nothing.
 use mathlib.Core.Path.{sym, ◌∙◌}
-use borrow.Author.Tests.{not-true, not-false}
 use Rattle.payload.proofs.Reach.{reach-nowhere}
-use borrow.Author.Rules.{rules}
 use Rattle.payload.proofs.frames.reach.Goals as goal
 
 pub returns-then-not-lies : goal.returns-then-not-lies

@@ -1,10 +1,6 @@
 -- `payload::frames::resolve` meets its contract. Assumes nothing.
-use mathlib.Core.Path.{sym, ◌∙◌}
 use Prim.Native.Nat.{◌-◌}
-use native.Mathlib.Omega.{arith}
-use Rattle.payload.proofs.Spots.{Walking, walking-first, walking_after, walking-fits, walking_on, walk-stop, walk_ends, walk_none}
-use Rattle.payload.proofs.Onto.{lying, over-of, broken-of, bad-of, begun-by, first-of, no-over, no-broken, no-bad}
-use borrow.Author.Rules.{rules}
+use Rattle.payload.proofs.Spots.{Walking}
 use Rattle.payload.proofs.frames.resolve.Given as goal
 
 abbrev pub invariant-loop-number : goal.invariant-loop-number

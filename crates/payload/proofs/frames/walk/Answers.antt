@@ -1,12 +1,8 @@
 -- `payload::frames::walk` meets its contract. Assumes nothing.
 use mathlib.Core.Path.{sym, ◌∙◌}
-use Prim.Native.Nat.{◌+◌, ◌-◌}
 use native.Mathlib.Omega.{arith}
-use lib.ListN.{length}
-use borrow.Author.Tests.{not-true, not-false}
-use Rattle.payload.proofs.Reach.{Reaching, reach-begins, reach-again, reach-stops, reach-ends}
+use Rattle.payload.proofs.Reach.{reach-begins, reach-again, reach-stops, reach-ends}
 use Rattle.payload.proofs.Onto.{after, onto-of, over-of, broken-of, bad-of, lying}
-use borrow.Author.Rules.{rules}
 use Rattle.payload.proofs.frames.walk.Goals as goal
 
 pub loop-here-init : goal.loop-here-init

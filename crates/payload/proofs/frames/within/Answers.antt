@@ -2,7 +2,6 @@
 use Prim.Native.Nat.{◌+◌, ◌-◌, ◌≤◌, ◌<◌}
 use native.Mathlib.Omega.{arith}
 use borrow.Author.Tests.{lt-leb, le-leb}
-use borrow.Author.Rules.{rules}
 use Rattle.payload.proofs.frames.within.Goals as goal
 
 pub returns-then-place-lt-PACKET_HEADER_SIZE : goal.returns-then-place-lt-PACKET_HEADER_SIZE

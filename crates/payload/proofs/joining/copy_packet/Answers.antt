@@ -3,7 +3,6 @@ use Prim.Native.Nat.{◌+◌, ◌-◌, ◌*◌}
 use native.Mathlib.Omega.{arith}
 use native.Mathlib.Nat.{add-sub_cancel_left}
 use Rattle.payload.proofs.Onto.{lying}
-use borrow.Author.Rules.{rules}
 use Rattle.payload.proofs.joining.copy_packet.Goals as goal
 
 pub overflow_mul-start : goal.overflow_mul-start

@@ -1,7 +1,6 @@
 -- `payload::joining::join` meets its contract. Assumes nothing.
 use mathlib.Core.Path.{sym, ◌∙◌}
 use Rattle.payload.proofs.Payloads.{left, filled}
-use borrow.Author.Rules.{rules}
 use Rattle.payload.proofs.joining.join.Goals as goal
 
 pub returns-in-Refused : goal.returns-in-Refused

@@ -1,12 +1,9 @@
 -- `payload::joining::measured` meets its contract. The loop's invariant: the whole payload has the bytes up to the frame's end and
 -- those of the packets after it, and the same stops them. Assumes nothing.
 use mathlib.Core.Path.{refl, sym, ◌∙◌}
-use Prim.Native.Nat.{◌-◌}
 use native.Mathlib.Omega.{arith}
-use lib.ListN.{length}
 use Rattle.payload.proofs.Onto.{after, onto-of, over-of, broken-of, bad-of, begun-by, first-of, no-over, no-broken, no-bad, lying}
-use Rattle.payload.proofs.Payloads.{Measuring, measure-first, measure-on, measure-stop, measure-none, answered}
-use borrow.Author.Rules.{rules}
+use Rattle.payload.proofs.Payloads.{measure-first, measure-on, measure-stop, measure-none, answered}
 use Rattle.payload.proofs.joining.measured.Goals as goal
 
 pub returns-in-Over : goal.returns-in-Over

@@ -5,7 +5,6 @@ use Rattle.payload.proofs.CodeReads.{number-got, number-not, part-got, part-not,
 use Rattle.cells.proofs.CodeReads.{type-is, type-is-not}
 use Rattle.reader.specs.Code.{token_read}
 use Rattle.reader.specs.ReadTokens.{column_at}
-use borrow.Author.Rules.{rules}
 use Rattle.reader.proofs.token_reader.column_at.Goals as goal
 
 pub returns-in-Refused : goal.returns-in-Refused

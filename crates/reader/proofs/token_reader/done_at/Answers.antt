@@ -4,7 +4,6 @@ use native.Mathlib.Omega.{arith}
 use Rattle.payload.proofs.CodeReads.{number-got, number-not, below}
 use Rattle.reader.specs.Code.{token_read}
 use Rattle.reader.specs.ReadTokens.{done_at}
-use borrow.Author.Rules.{rules}
 use Rattle.reader.proofs.token_reader.done_at.Goals as goal
 
 pub returns-in-Refused : goal.returns-in-Refused

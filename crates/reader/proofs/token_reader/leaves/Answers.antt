@@ -1,5 +1,4 @@
 -- `reader::token_reader::leaves` meets its contract. Assumes nothing.
-use borrow.Author.Rules.{rules}
 use Rattle.reader.proofs.token_reader.leaves.Goals as goal
 
 pub returns : goal.returns

@@ -1,14 +1,13 @@
 -- `reader::token_reader::message_at` meets its contract. Assumes nothing.
 use mathlib.Core.Path.{sym, ap, ◌∙◌}
 use native.Mathlib.Omega.{arith}
-use borrow.Author.Tests.{leb-true, not-true, not-false}
+use borrow.Author.Tests.{leb-true}
 use Prim.Native.Nat.{◌≤◌}
 use Rattle.payload.proofs.CodeReads.{number-got, number-not, must-hold, must-not, then-got, then-not, below}
 use Rattle.reader.proofs.CodeTokens.{texts-is, texts-is-not}
 use Rattle.reader.specs.Code.{token_read}
 use Rattle.reader.specs.ReadTokens.{message_at}
 use Rattle.cells.proofs.Types.{both}
-use borrow.Author.Rules.{rules}
 use Rattle.reader.proofs.token_reader.message_at.Goals as goal
 
 pub returns-in-Refused : goal.returns-in-Refused

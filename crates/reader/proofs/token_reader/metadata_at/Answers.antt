@@ -4,7 +4,6 @@ use borrow.Author.Tests.{le-leb, lt-leb}
 use Rattle.payload.proofs.CodeReads.{number-got, number-not, must-hold, must-not}
 use Rattle.reader.specs.Code.{token_read}
 use Rattle.reader.specs.ReadTokens.{metadata_at}
-use borrow.Author.Rules.{rules}
 use Rattle.reader.proofs.token_reader.metadata_at.Goals as goal
 
 pub returns-in-Refused : goal.returns-in-Refused

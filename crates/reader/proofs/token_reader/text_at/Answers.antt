@@ -1,11 +1,9 @@
 -- `reader::token_reader::text_at` meets its contract. Assumes nothing.
 use mathlib.Core.Path.{sym, ap, ◌∙◌}
 use native.Mathlib.Omega.{arith}
-use borrow.Author.Tests.{not-true, not-false}
 use Rattle.payload.proofs.CodeReads.{number-got, number-not, must-hold, must-not, below}
 use Rattle.payload.specs.Answers.{part_read}
 use Rattle.reader.specs.ReadTokens.{text_at}
-use borrow.Author.Rules.{rules}
 use Rattle.reader.proofs.token_reader.text_at.Goals as goal
 
 pub returns-in-Refused : goal.returns-in-Refused

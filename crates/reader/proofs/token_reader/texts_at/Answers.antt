@@ -4,7 +4,6 @@ use native.Mathlib.Omega.{arith}
 use Rattle.payload.proofs.CodeReads.{number-got, number-not, then-got, then-not, below, part-is, part-is-not}
 use Rattle.reader.specs.Code.{texts_read}
 use Rattle.reader.specs.ReadTokens.{texts_at}
-use borrow.Author.Rules.{rules}
 use Rattle.reader.proofs.token_reader.texts_at.Goals as goal
 
 pub returns-in-Refused : goal.returns-in-Refused

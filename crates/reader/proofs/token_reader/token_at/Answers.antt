@@ -9,7 +9,6 @@ use Rattle.reader.specs.ReadTokens.{token_at}
 use lib.Dec.{eqb}
 use mathlib.Core.Bool.{true, false, ◌||◌}
 use Rattle.wire.proofs.Cases.{split}
-use borrow.Author.Rules.{rules}
 use Rattle.reader.proofs.token_reader.token_at.Goals as goal
 
 -- the codes of ERROR and INFO stand side by side

@@ -2,7 +2,6 @@
 use mathlib.Core.Path.{◌≡◌}
 use native.Mathlib.Omega.{arith}
 use Rattle.payload.proofs.CodeReads.{below_more}
-use borrow.Author.Rules.{rules}
 use Rattle.reader.proofs.token_reader.units_at.Goals as goal
 
 pub returns-then-k-eq1 : goal.returns-then-k-eq1

@@ -1,7 +1,6 @@
 -- `response::faults::feature_size` meets its contract. Assumes nothing.
 use Rattle.response.specs.Inner.{feature_size}
 use native.Mathlib.Omega.{arith}
-use borrow.Author.Rules.{rules}
 use Rattle.response.proofs.faults.feature_size.Goals as goal
 
 pub returns : goal.returns

@@ -1,7 +1,6 @@
 -- `response::faults::fedauth_info_size` meets its contract. Assumes nothing.
 use native.Mathlib.Omega.{arith}
 use Rattle.response.proofs.Lengths.{info-size}
-use borrow.Author.Rules.{rules}
 use Rattle.response.proofs.faults.fedauth_info_size.Goals as goal
 
 pub returns : goal.returns

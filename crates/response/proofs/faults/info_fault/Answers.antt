@@ -1,7 +1,6 @@
 -- `response::faults::info_fault` meets its contract. Assumes nothing.
 use Rattle.response.proofs.Firsts.{found, passed, pair}
 use mathlib.Core.Path.{sym, ◌∙◌}
-use borrow.Author.Rules.{rules}
 use Rattle.response.proofs.faults.info_fault.Goals as goal
 
 pub returns-then-found-ne-NONE : goal.returns-then-found-ne-NONE

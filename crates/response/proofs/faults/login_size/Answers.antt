@@ -1,7 +1,6 @@
 -- `response::faults::login_size` meets its contract. Assumes nothing.
 use native.Mathlib.Omega.{arith}
 use Rattle.response.proofs.Lengths.{login-ack-size}
-use borrow.Author.Rules.{rules}
 use Rattle.response.proofs.faults.login_size.Goals as goal
 
 pub returns-then-login_ack : goal.returns-then-login_ack

@@ -2,12 +2,8 @@
 -- on refuses as the whole list does and has the size that the whole has more than the size so far, as far as it counts.
 -- Assumes nothing.
 use Rattle.script.proofs.Walk.{lies}
-use Rattle.response.proofs.Measuring.{Measuring, measuring, measured-cut, measured-end, measured-bad, measured-next}
-use Rattle.response.specs.Lists.{feature_fault}
-use Rattle.response.specs.Inner.{feature_size}
-use Prim.Native.Nat.{◌-◌, ◌≤◌}
+use Rattle.response.proofs.Measuring.{measuring, measured-cut, measured-end, measured-bad, measured-next}
 use mathlib.Core.Path.{sym, ◌∙◌}
-use lib.ListN.{length}
 use native.Mathlib.Omega.{arith}
 use borrow.Author.Rules.{rules}
 use Rattle.response.proofs.faults.measure_features.Goals as goal

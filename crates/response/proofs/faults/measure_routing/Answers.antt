@@ -8,7 +8,6 @@ use Rattle.response.specs.Answer.{first_of}
 use Rattle.response.specs.Lists.{routes_fault}
 use Rattle.response.specs.Inner.{measured}
 use Rattle.response.proofs.Firsts.{found, passed, last}
-use borrow.Author.Rules.{rules}
 use Rattle.response.proofs.faults.measure_routing.Goals as goal
 
 pub returns-then-refusal-ne-NONE : goal.returns-then-refusal-ne-NONE

@@ -1,8 +1,7 @@
 -- `response::faults::route_fault` meets its contract. Assumes nothing.
-use borrow.Author.Tests.{ne_eqb, not-true, not-false}
+use borrow.Author.Tests.{ne_eqb}
 use mathlib.Core.Path.{sym, ◌∙◌}
 use Rattle.response.specs.Lists.{route_fault}
-use borrow.Author.Rules.{rules}
 use Rattle.response.proofs.faults.route_fault.Goals as goal
 
 pub returns-then-p-ne0 : goal.returns-then-p-ne0

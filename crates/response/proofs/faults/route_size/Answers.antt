@@ -2,7 +2,6 @@
 use Rattle.response.specs.Inner.{route_size}
 use borrow.Author.Tests.{ne_eqb}
 use native.Mathlib.Omega.{arith}
-use borrow.Author.Rules.{rules}
 use Rattle.response.proofs.faults.route_size.Goals as goal
 
 pub returns-then-kind-eq-PLAIN_ROUTE : goal.returns-then-kind-eq-PLAIN_ROUTE

@@ -8,7 +8,6 @@ use Rattle.wire.proofs.Fields.{then-fields}
 use Rattle.response.proofs.Lengths.{database-target-size}
 use Rattle.response.specs.Routing.{target}
 use Rattle.token.specs.Tokens.{us_varchar}
-use borrow.Author.Rules.{rules}
 use Rattle.wire.proofs.Over.{wrote}
 use Rattle.response.proofs.put.put_database_route.Goals as goal
 

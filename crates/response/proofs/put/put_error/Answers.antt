@@ -12,7 +12,6 @@ use Rattle.wire.proofs.Fields.{then-fields}
 use Rattle.wire.specs.Be.{be}
 use Rattle.text.specs.Surrogates.{utf8_length}
 use Rattle.token.specs.Tokens.{message_length}
-use borrow.Author.Rules.{rules}
 use Rattle.response.proofs.put.put_error.Goals as goal
 
 pub returns : goal.returns

@@ -7,7 +7,6 @@ use mathlib.Core.Path.{◌≡◌}
 use lib.ListN.{length, drop, length-drop}
 use Prim.Native.Nat.{◌%◌, ◌^◌}
 use Rattle.wire.proofs.Le.{le-mod}
-use borrow.Author.Rules.{rules}
 use Rattle.response.proofs.put.put_feature.Goals as goal
 
 pub returns : goal.returns

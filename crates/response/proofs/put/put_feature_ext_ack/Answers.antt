@@ -3,7 +3,6 @@ use Rattle.wire.proofs.Over.{wrote, then}
 use Rattle.response.proofs.Writing.{alone}
 use Rattle.wire.specs.Fields.{flat}
 use Rattle.response.specs.Lists.{feature_ext_ack}
-use borrow.Author.Rules.{rules}
 use Rattle.response.proofs.put.put_feature_ext_ack.Goals as goal
 
 pub returns : goal.returns

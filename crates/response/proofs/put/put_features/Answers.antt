@@ -2,11 +2,9 @@
 -- from it on, after what is written, has written the whole. Assumes nothing.
 use borrow.Enum.Refused.{opened}
 use Rattle.script.proofs.Walk.{lies}
-use Rattle.response.proofs.Putting.{Putting, putting-start, putting-stop, putting-next}
+use Rattle.response.proofs.Putting.{putting-start, putting-stop, putting-next}
 use Rattle.response.specs.Lists.{feature_bytes}
-use Prim.Native.Nat.{◌-◌, ◌≤◌}
 use mathlib.Core.Path.{sym, ◌∙◌}
-use lib.ListN.{length}
 use native.Mathlib.Omega.{arith}
 use borrow.Author.Rules.{rules}
 use Rattle.response.proofs.put.put_features.Goals as goal

@@ -1,13 +1,9 @@
 -- `response::put::put_features` meets its contract. The loop's invariant: the place is in the list, and whoever writes what is left
 -- from it on, after what is written, has written the whole. Assumes nothing.
-use Rattle.script.proofs.Walk.{lies}
-use Rattle.response.proofs.Putting.{Putting, putting-start, putting-stop, putting-next}
+use Rattle.response.proofs.Putting.{Putting}
 use Rattle.response.specs.Lists.{feature_bytes}
 use Prim.Native.Nat.{◌-◌, ◌≤◌}
-use mathlib.Core.Path.{sym, ◌∙◌}
 use lib.ListN.{length}
-use native.Mathlib.Omega.{arith}
-use borrow.Author.Rules.{rules}
 use Rattle.response.proofs.put.put_features.Given as goal
 
 abbrev pub invariant-loop-start : goal.invariant-loop-start

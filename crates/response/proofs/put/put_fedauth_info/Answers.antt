@@ -1,7 +1,6 @@
 -- `response::put::put_fedauth_info` meets its contract. Assumes nothing.
 use Rattle.wire.proofs.Over.{wrote, then, wrote_as}
 use Rattle.response.proofs.Writing.{informed}
-use borrow.Author.Rules.{rules}
 use Rattle.response.proofs.put.put_fedauth_info.Goals as goal
 
 pub returns : goal.returns

@@ -9,7 +9,6 @@ use Rattle.wire.specs.Le.{le}
 use mathlib.Core.List.{[]}
 use Rattle.wire.proofs.Fields.{then-fields}
 use Rattle.response.specs.Login.{info_option}
-use borrow.Author.Rules.{rules}
 use Rattle.response.proofs.put.put_info_head.Goals as goal
 
 pub returns : goal.returns

@@ -3,7 +3,6 @@ use Rattle.wire.proofs.Over.{wrote, then}
 use Rattle.response.proofs.Writing.{alone, low}
 use Rattle.wire.specs.Fields.{flat}
 use native.Mathlib.Omega.{arith}
-use borrow.Author.Rules.{rules}
 use Rattle.response.proofs.put.put_info_option.Goals as goal
 
 pub returns : goal.returns

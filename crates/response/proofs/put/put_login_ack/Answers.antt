@@ -5,7 +5,6 @@ use Rattle.wire.specs.Fields.{flat}
 use Rattle.text.specs.Units.{units_of, units}
 use Rattle.response.specs.Login.{login_ack_token, wide}
 use Rattle.response.proofs.Writing.{nothing}
-use borrow.Author.Rules.{rules}
 use Rattle.wire.proofs.Over.{wrote}
 use Rattle.response.proofs.put.put_login_ack.Goals as goal
 

@@ -4,7 +4,6 @@ use native.Mathlib.Omega.{arith}
 use mathlib.Core.List.{[]}
 use Rattle.response.proofs.Lengths.{target-size}
 use Rattle.response.specs.Routing.{target}
-use borrow.Author.Rules.{rules}
 use Rattle.wire.proofs.Over.{wrote}
 use Rattle.response.proofs.put.put_plain_route.Goals as goal
 

@@ -1,7 +1,6 @@
 -- `response::put::put_route` meets its contract. Assumes nothing.
 use borrow.Author.Tests.{ne_eqb}
 use Rattle.response.specs.Lists.{route_bytes}
-use borrow.Author.Rules.{rules}
 use Rattle.response.proofs.put.put_route.Goals as goal
 
 pub returns-then-kind-eq-PLAIN_ROUTE : goal.returns-then-kind-eq-PLAIN_ROUTE

@@ -1,10 +1,8 @@
 -- `response::put::put_routing_ack` meets its contract. Assumes nothing.
 use Rattle.response.proofs.Writing.{nothing}
-use borrow.Author.Tests.{not-true, not-false}
 use Rattle.response.specs.Replies.{feature_ack}
 use Rattle.script.specs.Records.{records, parse}
 use Rattle.wire.specs.Le.{le_at}
-use borrow.Author.Rules.{rules}
 use Rattle.response.proofs.put.put_routing_ack.Goals as goal
 
 pub returns-then-not-sent : goal.returns-then-not-sent

@@ -4,7 +4,6 @@ use Rattle.response.proofs.Writing.{alone, low}
 use Rattle.wire.specs.Fields.{flat}
 use native.Mathlib.Omega.{arith}
 use Prim.Native.Nat.{◌+◌}
-use borrow.Author.Rules.{rules}
 use Rattle.response.proofs.put.put_routing_head.Goals as goal
 
 pub returns : goal.returns

@@ -1,7 +1,6 @@
 -- `response::put::put_routing_tokens` meets its contract. Assumes nothing.
 use Rattle.wire.proofs.Over.{wrote, then}
 use Rattle.response.specs.Replies.{routing_tokens}
-use borrow.Author.Rules.{rules}
 use Rattle.response.proofs.put.put_routing_tokens.Goals as goal
 
 pub returns : goal.returns

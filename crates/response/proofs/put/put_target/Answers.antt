@@ -4,7 +4,6 @@ use Rattle.wire.proofs.Over.{wrote, then}
 use Rattle.wire.specs.Fields.{flat}
 use Rattle.text.specs.Units.{units}
 use Rattle.text.proofs.Scan.{units-half}
-use borrow.Author.Rules.{rules}
 use Rattle.response.proofs.put.put_target.Goals as goal
 
 pub returns : goal.returns

@@ -2,7 +2,6 @@
 use Rattle.wire.proofs.Over.{wrote, then}
 use Rattle.response.proofs.Writing.{alone}
 use Rattle.wire.specs.Fields.{flat}
-use borrow.Author.Rules.{rules}
 use Rattle.response.proofs.put.put_text.Goals as goal
 
 pub returns : goal.returns

@@ -1,7 +1,6 @@
 -- `station::build::acknowledgement` meets its contract. Assumes nothing.
 use borrow.Author.Tests.{lt-ltb, le-ltb}
 use Rattle.station.specs.Builds.{ack_of}
-use borrow.Author.Rules.{rules}
 use Rattle.station.proofs.build.acknowledgement.Goals as goal
 
 pub returns-then-ack-ge-NO_ACK : goal.returns-then-ack-ge-NO_ACK

@@ -1,6 +1,5 @@
 -- `station::build::station_build_feature_ext_ack_data_classification` meets its contract. Assumes nothing.
 use Rattle.station.proofs.Builds.{fits, built}
-use borrow.Author.Rules.{rules}
 use Rattle.station.proofs.build.station_build_feature_ext_ack_data_classification.Goals as goal
 
 pub tell-requires : goal.tell-requires

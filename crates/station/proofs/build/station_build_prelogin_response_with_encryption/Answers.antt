@@ -1,6 +1,5 @@
 -- `station::build::station_build_prelogin_response_with_encryption` meets its contract. Assumes nothing.
 use Rattle.station.proofs.Builds.{fits, built}
-use borrow.Author.Rules.{rules}
 use Rattle.station.proofs.build.station_build_prelogin_response_with_encryption.Goals as goal
 
 pub tell-requires : goal.tell-requires

@@ -4,7 +4,6 @@ use native.Mathlib.Omega.{arith}
 use lib.ListN.{length}
 use Rattle.response.proofs.InPackets.{cut_small}
 use Rattle.station.proofs.Builds.{cut-built}
-use borrow.Author.Rules.{rules}
 use Rattle.station.proofs.build.station_cut_payload.Goals as goal
 
 pub tell-requires : goal.tell-requires

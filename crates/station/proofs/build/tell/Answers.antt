@@ -3,7 +3,6 @@ use mathlib.Core.Path.{sym, ap}
 use native.Mathlib.Omega.{arith}
 use Rattle.station.specs.Builds.{built_outcome}
 use Rattle.station.proofs.Ends.{told, denied}
-use borrow.Author.Rules.{rules}
 use Rattle.station.proofs.build.tell.Goals as goal
 
 pub overflow_cast-result : goal.overflow_cast-result

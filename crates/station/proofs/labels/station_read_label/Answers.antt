@@ -3,7 +3,6 @@ use mathlib.Core.Path.{sym, ◌∙◌}
 use native.Mathlib.Omega.{arith}
 use Rattle.station.proofs.Ends.{callee-told, callee-refused}
 use Rattle.station.proofs.LabelEnds.{label-read}
-use borrow.Author.Rules.{rules}
 use Rattle.station.proofs.labels.station_read_label.Goals as goal
 
 pub overflow_cast-result : goal.overflow_cast-result

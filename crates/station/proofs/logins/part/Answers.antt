@@ -1,5 +1,4 @@
 -- `station::logins::part` meets its contract. Assumes nothing.
-use borrow.Author.Rules.{rules}
 use Rattle.station.proofs.logins.part.Goals as goal
 
 pub returns-in-Missing : goal.returns-in-Missing

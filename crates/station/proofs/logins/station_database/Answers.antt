@@ -2,7 +2,6 @@
 use mathlib.Core.Path.{sym, ap, ◌∙◌}
 use Rattle.station.proofs.Ends.{passed}
 use Rattle.station.specs.Logins.{database_outcome, database_call}
-use borrow.Author.Rules.{rules}
 use Rattle.station.proofs.logins.station_database.Goals as goal
 
 pub returns-in-At : goal.returns-in-At

@@ -5,7 +5,6 @@ use mathlib.Core.Path.{sym, ap, ◌∙◌}
 use Rattle.station.proofs.Ends.{passed, stopped}
 use Rattle.station.specs.Logins.{login_outcome, login_call}
 use Rattle.station.proofs.Ids.{in-room, few, enough}
-use borrow.Author.Rules.{rules}
 use Rattle.station.proofs.logins.station_parse_login7.Goals as goal
 
 pub returns-then-out-lt-LOGIN_SLOTS : goal.returns-then-out-lt-LOGIN_SLOTS

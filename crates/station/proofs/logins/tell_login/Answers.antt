@@ -1,7 +1,6 @@
 -- `station::logins::tell_login` meets its contract. Assumes nothing.
 use Rattle.station.proofs.Ends.{passed}
 use Rattle.station.specs.Logins.{login_slots}
-use borrow.Author.Rules.{rules}
 use Rattle.station.proofs.logins.tell_login.Goals as goal
 
 pub returns : goal.returns

@@ -5,7 +5,6 @@ use lib.ListN.{length}
 use Rattle.payload.proofs.Payloads.{within}
 use Rattle.station.proofs.Ends.{callee-told, callee-refused}
 use Rattle.station.proofs.Joins.{joined}
-use borrow.Author.Rules.{rules}
 use Rattle.station.proofs.packets.station_payload.Goals as goal
 
 pub overflow_cast-result : goal.overflow_cast-result

@@ -4,7 +4,6 @@ use mir.Syntax.{w64}
 use mir.Facts.{to_z-of_z}
 use Rattle.station.specs.Steps.{bits_of}
 use Rattle.station.specs.Procedures.{bits_slot}
-use borrow.Author.Rules.{rules}
 use Rattle.station.proofs.procedures.bits_slot.Goals as goal
 
 pub returns-in-Number : goal.returns-in-Number

@@ -1,5 +1,4 @@
 -- `station::procedures::parameter_of` meets its contract. Assumes nothing.
-use borrow.Author.Rules.{rules}
 use Rattle.station.proofs.procedures.parameter_of.Goals as goal
 
 pub returns-in-Missing : goal.returns-in-Missing

@@ -1,5 +1,4 @@
 -- `station::procedures::statement_part` meets its contract. Assumes nothing.
-use borrow.Author.Rules.{rules}
 use Rattle.station.proofs.procedures.statement_part.Goals as goal
 
 pub returns-in-Missing : goal.returns-in-Missing

@@ -2,7 +2,6 @@
 use mathlib.Core.Path.{sym, ap, ◌∙◌}
 use Rattle.station.proofs.Ends.{passed, stopped}
 use Rattle.station.specs.Procedures.{rpc_outcome, rpc_call}
-use borrow.Author.Rules.{rules}
 use Rattle.station.proofs.procedures.station_parse_rpc_request.Goals as goal
 
 pub returns-in-Call : goal.returns-in-Call

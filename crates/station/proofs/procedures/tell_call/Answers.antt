@@ -1,7 +1,6 @@
 -- `station::procedures::tell_call` meets its contract. Assumes nothing.
 use Rattle.station.proofs.Ends.{passed}
 use Rattle.station.specs.Procedures.{call_slots}
-use borrow.Author.Rules.{rules}
 use Rattle.station.proofs.procedures.tell_call.Goals as goal
 
 pub returns : goal.returns

@@ -3,7 +3,6 @@ use mathlib.Core.Path.{sym, ◌∙◌}
 use native.Mathlib.Omega.{arith}
 use Rattle.station.proofs.Captures.{marked}
 use Rattle.station.proofs.Ends.{callee-told, callee-refused}
-use borrow.Author.Rules.{rules}
 use Rattle.station.proofs.requests.station_capture_marks.Goals as goal
 
 pub overflow_cast-result : goal.overflow_cast-result

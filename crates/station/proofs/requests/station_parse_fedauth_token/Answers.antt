@@ -2,7 +2,6 @@
 use mathlib.Core.Path.{sym, ap, ◌∙◌}
 use Rattle.station.proofs.Ends.{passed, stopped}
 use Rattle.station.specs.Requests.{token_outcome, token_call}
-use borrow.Author.Rules.{rules}
 use Rattle.station.proofs.requests.station_parse_fedauth_token.Goals as goal
 
 pub returns-in-Bytes : goal.returns-in-Bytes

@@ -2,7 +2,6 @@
 use mathlib.Core.Path.{sym, ap, ◌∙◌}
 use Rattle.station.proofs.Ends.{passed, stopped}
 use Rattle.station.specs.Requests.{batch_outcome, batch_call}
-use borrow.Author.Rules.{rules}
 use Rattle.station.proofs.requests.station_parse_sql_batch.Goals as goal
 
 pub returns-in-Text : goal.returns-in-Text

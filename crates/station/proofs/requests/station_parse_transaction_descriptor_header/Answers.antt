@@ -2,7 +2,6 @@
 use mathlib.Core.Path.{sym, ap, ◌∙◌}
 use Rattle.station.proofs.Ends.{passed, silent}
 use Rattle.station.specs.Requests.{descriptor_outcome, descriptor_call}
-use borrow.Author.Rules.{rules}
 use Rattle.station.proofs.requests.station_parse_transaction_descriptor_header.Goals as goal
 
 pub returns-in-Found : goal.returns-in-Found

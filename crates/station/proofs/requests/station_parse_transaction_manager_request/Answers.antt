@@ -3,7 +3,6 @@ use mathlib.Core.Path.{sym, ap, ◌∙◌}
 use native.Mathlib.Omega.{arith}
 use Rattle.station.proofs.Ends.{told, denied}
 use Rattle.station.specs.Requests.{transaction_outcome, transaction_call}
-use borrow.Author.Rules.{rules}
 use Rattle.station.proofs.requests.station_parse_transaction_manager_request.Goals as goal
 
 pub returns-in-RequestType : goal.returns-in-RequestType

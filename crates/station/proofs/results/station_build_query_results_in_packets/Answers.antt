@@ -4,7 +4,6 @@ use lib.ListN.{length}
 use Rattle.station.proofs.Ends.{handed}
 use Rattle.station.proofs.Lengths.{fits-in-packets}
 use Rattle.station.specs.Results.{built_outcome, in_packets_call}
-use borrow.Author.Rules.{rules}
 use Rattle.station.proofs.results.station_build_query_results_in_packets.Goals as goal
 
 pub bytes_written-requires : goal.bytes_written-requires

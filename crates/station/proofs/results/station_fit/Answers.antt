@@ -2,7 +2,6 @@
 use mathlib.Core.Path.{sym, ap, ◌∙◌}
 use Rattle.station.proofs.Ends.{passed, stopped, silent}
 use Rattle.station.specs.Results.{fit_outcome, fit_call}
-use borrow.Author.Rules.{rules}
 use Rattle.station.proofs.results.station_fit.Goals as goal
 
 pub returns-in-Yes : goal.returns-in-Yes

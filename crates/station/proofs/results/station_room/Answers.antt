@@ -2,7 +2,6 @@
 use Rattle.station.proofs.Ends.{handed}
 use Rattle.station.proofs.Lengths.{room_fits}
 use Rattle.station.specs.Results.{built_outcome, room_call}
-use borrow.Author.Rules.{rules}
 use Rattle.station.proofs.results.station_room.Goals as goal
 
 pub bytes_written-requires : goal.bytes_written-requires

@@ -2,7 +2,6 @@
 use mathlib.Core.Path.{sym, ap}
 use Rattle.station.proofs.Ends.{passed}
 use Rattle.station.specs.Results.{misfit_outcome}
-use borrow.Author.Rules.{rules}
 use Rattle.station.proofs.results.tell_misfit.Goals as goal
 
 pub returns-in-Classification : goal.returns-in-Classification

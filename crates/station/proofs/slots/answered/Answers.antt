@@ -2,11 +2,10 @@
 -- Assumes nothing.
 use Rattle.station.proofs.Ends.{too_few, written}
 use lib.Seq.{take_all}
-use lib.ListN.{length-set, length, take}
+use lib.ListN.{length-set, take}
 use Rattle.wire.specs.Over.{overwrite}
 use Rattle.wire.proofs.Over.{over-more}
 use native.Mathlib.Nat.{zero-add}
-use Prim.Native.Nat.{◌-◌, ◌≤◌}
 use mathlib.Core.Path.{◌≡◌, refl}
 use native.Mathlib.Omega.{arith}
 use borrow.Author.Rules.{rules}

@@ -1,15 +1,9 @@
 -- `station::slots::answered` meets its contract. The loop's invariant: the first i values are written over the slots that were lent, the rest stands.
 -- Assumes nothing.
-use Rattle.station.proofs.Ends.{too_few, written}
-use lib.Seq.{take_all}
-use lib.ListN.{length-set, length, take}
+use lib.ListN.{length, take}
 use Rattle.wire.specs.Over.{overwrite}
-use Rattle.wire.proofs.Over.{over-more}
-use native.Mathlib.Nat.{zero-add}
 use Prim.Native.Nat.{◌-◌, ◌≤◌}
-use mathlib.Core.Path.{◌≡◌, refl}
-use native.Mathlib.Omega.{arith}
-use borrow.Author.Rules.{rules}
+use mathlib.Core.Path.{◌≡◌}
 use Rattle.station.proofs.slots.answered.Given as goal
 
 abbrev pub invariant-loop-i : goal.invariant-loop-i

@@ -2,7 +2,6 @@
 use Rattle.station.specs.Answer.{number_of}
 use native.Mathlib.Omega.{arith}
 use Rattle.station.proofs.Signs.{minus-fits, minus}
-use borrow.Author.Rules.{rules}
 use Rattle.station.proofs.slots.refused.Goals as goal
 
 pub overflow_sub-result : goal.overflow_sub-result

@@ -1,10 +1,6 @@
 -- `station::steps::are_types` meets its contract. Assumes nothing.
 use mathlib.Core.Path.{◌≡◌, refl, sym, ap, ◌∙◌}
 use native.Mathlib.Omega.{arith}
-use mathlib.Core.Bool.{true}
-use Prim.Native.Nat.{◌-◌, ◌≤◌}
-use lib.ListN.{length}
-use borrow.Author.Tests.{not-true, not-false}
 use Rattle.reader.specs.Positions.{held}
 use Rattle.station.proofs.Stepping.{held_to, held-turn, held-fails, held-short, held-over}
 use borrow.Author.Rules.{rules}

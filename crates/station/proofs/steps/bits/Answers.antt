@@ -1,5 +1,5 @@
 -- `station::steps::bits` meets its contract. Assumes nothing.
-use Rattle.station.proofs.Twos.{Plain, plain, Turned, turn}
+use Rattle.station.proofs.Twos.{plain, turn}
 use Rattle.station.proofs.steps.bits.Goals as goal
 
 pub overflow_cast-result : goal.overflow_cast-result

@@ -2,7 +2,6 @@
 use borrow.Author.Tests.{lt-ltb, le-ltb}
 use mathlib.Core.Path.{sym}
 use Rattle.station.specs.Steps.{code_of}
-use borrow.Author.Rules.{rules}
 use Rattle.station.proofs.steps.code_of.Goals as goal
 
 pub returns-then-slot-lt-NO_TYPE : goal.returns-then-slot-lt-NO_TYPE

@@ -1,6 +1,5 @@
 -- `station::steps::held_in` meets its contract. Assumes nothing.
 use Rattle.station.proofs.Stepping.{held-slots}
-use borrow.Author.Rules.{rules}
 use Rattle.station.proofs.steps.held_in.Goals as goal
 
 pub returns : goal.returns

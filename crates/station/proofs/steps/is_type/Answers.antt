@@ -1,6 +1,5 @@
 -- `station::steps::is_type` meets its contract. Assumes nothing.
 use native.Mathlib.Omega.{arith}
-use mathlib.Core.Logic.{inl, inr}
 use Rattle.station.proofs.TypeSlots.{int-typed, max-typed, small-typed, text-typed}
 use Rattle.station.proofs.steps.is_type.Goals as goal
 use Rattle.station.proofs.steps.is_type.Goals.{in_default-via-then-slot-lt2490369, in_default-via-else-slot-lt2490369+else-slot-lt2490371}

@@ -1,10 +1,8 @@
 -- `station::steps::move_on` meets its contract. Assumes nothing.
-use native.Mathlib.Omega.{arith}
 use mathlib.Core.Path.{ap, ◌∙◌, refl}
 use Rattle.station.specs.Steps.{with_type}
 use Rattle.station.proofs.Ends.{passed}
 use Rattle.station.proofs.Stepping.{no-position, no-out, moved}
-use borrow.Author.Rules.{rules}
 use Rattle.station.proofs.steps.move_on.Goals as goal
 
 pub returns-then-position-lt-POSITION_SLOTS : goal.returns-then-position-lt-POSITION_SLOTS

@@ -1,7 +1,6 @@
 -- `station::steps::place_of` meets its contract. Assumes nothing.
 use borrow.Author.Tests.{le-leb, lt-leb}
 use mathlib.Core.Path.{sym, ◌∙◌}
-use borrow.Author.Rules.{rules}
 use Rattle.station.proofs.steps.place_of.Goals as goal
 
 pub returns-then-over-le1 : goal.returns-then-over-le1

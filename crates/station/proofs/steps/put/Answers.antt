@@ -2,7 +2,6 @@
 use lib.Seq.{set_out}
 use mathlib.Core.Path.{sym}
 use native.Mathlib.Omega.{arith}
-use borrow.Author.Rules.{rules}
 use Rattle.station.proofs.steps.put.Goals as goal
 
 pub returns-else-at-slots : goal.returns-else-at-slots

@@ -2,7 +2,6 @@
 use lib.ListN.{length-set}
 use native.Mathlib.Omega.{arith}
 use Rattle.wire.specs.Over.{overwrite}
-use borrow.Author.Rules.{rules}
 use Rattle.station.proofs.steps.put_spot.Goals as goal
 
 pub bounds-slots-1 : goal.bounds-slots-1

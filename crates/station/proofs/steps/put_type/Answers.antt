@@ -1,7 +1,5 @@
 -- `station::steps::put_type` meets its contract. Assumes nothing.
-use mathlib.Core.Path.{◌∙◌}
 use Rattle.station.specs.Steps.{type_slot, with_type}
-use borrow.Author.Rules.{rules}
 use Rattle.station.proofs.steps.put_type.Goals as goal
 
 pub returns-in-Column : goal.returns-in-Column

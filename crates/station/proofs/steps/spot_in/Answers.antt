@@ -1,6 +1,5 @@
 -- `station::steps::spot_in` meets its contract. Assumes nothing.
 use Rattle.station.specs.Steps.{place_of, position_of}
-use borrow.Author.Rules.{rules}
 use Rattle.station.proofs.steps.spot_in.Goals as goal
 
 pub returns : goal.returns

@@ -2,7 +2,6 @@
 use mathlib.Core.Path.{refl}
 use Rattle.station.specs.Steps.{fresh_call}
 use Rattle.station.proofs.Ends.{passed}
-use borrow.Author.Rules.{rules}
 use Rattle.station.proofs.steps.station_fresh.Goals as goal
 
 pub returns : goal.returns

@@ -7,7 +7,6 @@ use Rattle.reader.specs.declared.Step.{Step}
 use Rattle.reader.specs.declared.Spot.{Spot}
 use Rattle.station.proofs.Ends.{passed, stopped, silent}
 use Rattle.station.proofs.Stepping.{few, found, after-found, told}
-use borrow.Author.Rules.{rules}
 use Rattle.station.proofs.steps.station_step.Goals as goal
 
 pub held_in-requires : goal.held_in-requires

@@ -6,7 +6,6 @@ use mir.Facts.{to_z-of_z}
 use Rattle.station.specs.Answer.{answers}
 use Rattle.station.specs.Steps.{bits_of, four_slots, cell_slots}
 use Rattle.station.proofs.Ends.{passed}
-use borrow.Author.Rules.{rules}
 use Rattle.station.proofs.steps.tell_cell.Goals as goal
 
 pub returns-in-Null : goal.returns-in-Null

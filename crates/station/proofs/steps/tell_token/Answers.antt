@@ -3,7 +3,6 @@ use mathlib.Core.Path.{sym, ap}
 use Rattle.station.specs.Answer.{answers}
 use Rattle.station.specs.Steps.{token_slots}
 use Rattle.station.proofs.Ends.{passed}
-use borrow.Author.Rules.{rules}
 use Rattle.station.proofs.steps.tell_token.Goals as goal
 
 pub returns-in-ColMetadata : goal.returns-in-ColMetadata

@@ -1,7 +1,6 @@
 -- `station::steps::type_slot` meets its contract. Assumes nothing.
 use mathlib.Core.Path.{sym, ◌∙◌}
 use borrow.Author.Tests.{lt-ltb, le-ltb}
-use borrow.Author.Rules.{rules}
 use Rattle.station.proofs.steps.type_slot.Goals as goal
 
 pub returns-then-column-lt-MAX_COLUMNS : goal.returns-then-column-lt-MAX_COLUMNS

@@ -1,6 +1,5 @@
 -- `windows1252::characters::byte_of` meets its contract. Assumes nothing.
 use mathlib.Core.Path.{sym, ◌∙◌}
-use borrow.Author.Rules.{rules}
 use Rattle.windows1252.proofs.Table.{own-byte}
 use Rattle.windows1252.proofs.characters.byte_of.Goals as goal
 

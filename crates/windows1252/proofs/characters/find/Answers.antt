@@ -2,13 +2,11 @@
 -- Assumes nothing.
 use mathlib.Core.Path.{◌≡◌, sym, ap, ◌∙◌}
 use mathlib.Core.Bool.{false}
-use Prim.Native.Nat.{ℕ, ◌-◌, ◌≤◌, ◌<◌}
 use native.Mathlib.Omega.{arith}
 use borrow.Author.Tests.{ne_eqb}
 use lib.Dec.{eqb}
 use Rattle.windows1252.specs.Table.{unit_of, byte_of}
 use Rattle.windows1252.proofs.Table.{byte-of-unit, searched, not_yet}
-use borrow.Author.Rules.{rules}
 use Rattle.windows1252.proofs.characters.find.Goals as goal
 
 pub loop-b-init : goal.loop-b-init

@@ -1,14 +1,10 @@
 -- `windows1252::characters::find` meets its contract. The loop's invariant: no byte from 80 up to the one it has come to stands for the unit.
 -- Assumes nothing.
-use mathlib.Core.Path.{◌≡◌, sym, ap, ◌∙◌}
+use mathlib.Core.Path.{◌≡◌}
 use mathlib.Core.Bool.{false}
 use Prim.Native.Nat.{ℕ, ◌-◌, ◌≤◌, ◌<◌}
-use native.Mathlib.Omega.{arith}
-use borrow.Author.Tests.{ne_eqb}
 use lib.Dec.{eqb}
-use Rattle.windows1252.specs.Table.{unit_of, byte_of}
-use Rattle.windows1252.proofs.Table.{byte-of-unit, searched, not_yet}
-use borrow.Author.Rules.{rules}
+use Rattle.windows1252.specs.Table.{unit_of}
 use Rattle.windows1252.proofs.characters.find.Given as goal
 
 abbrev pub invariant-loop-b : goal.invariant-loop-b

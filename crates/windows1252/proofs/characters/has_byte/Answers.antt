@@ -1,6 +1,5 @@
 -- `windows1252::characters::has_byte` meets its contract. Assumes nothing.
 use mathlib.Core.Path.{sym, ◌∙◌}
-use borrow.Author.Rules.{rules}
 use Rattle.windows1252.proofs.Table.{own-has, has-by}
 use Rattle.windows1252.proofs.characters.has_byte.Goals as goal
 
