@@ -6,7 +6,7 @@ use crate::lines;
 use cells::Value;
 use payload::frames::{Frame, Reached, Spotted};
 use payload::{frames, minus};
-use reader::{Answer, Position, Step, Token};
+use reader::{Answer, Position, Token};
 use std::io;
 use std::io::Write;
 use wire::Part;
@@ -40,8 +40,7 @@ fn join_from(packets: &[u8], first: Frame, joined: &mut [u8]) -> usize
     requires { lies packets.now first ≡ true }
 {
     let mut frame = first;
-    let mut turns = packets.len();
-    while turns > 0 {
+    for _ in 0..packets.len() {
         wire::put_slice(joined, frame.base, payload_in(packets, frame));
         match frames::reach(packets, frame, frame.end, 1) {
             Reached::Past(_) => {
@@ -51,7 +50,6 @@ fn join_from(packets: &[u8], first: Frame, joined: &mut [u8]) -> usize
                 frame = next;
             },
         }
-        turns -= 1;
     }
     frame.end
 }
@@ -67,27 +65,21 @@ fn payload_in(packets: &[u8], frame: Frame) -> &[u8]
 
 // The lines of a run over packets; parts are those of their payload.
 fn run(packets: &[u8], payload: &[u8], places: bool, out: &mut impl Write) -> io::Result<()> {
-    let mut step = Step {
-        answer: Answer::End,
-        next: Position::fresh(),
-    };
-    let mut steps = MOST_STEPS;
-    while steps > 0 {
-        let position = step.next;
-        step = position.step(packets);
-        let got = step.answer;
-        match got {
+    let mut position = Position::fresh();
+    for _ in 0..MOST_STEPS {
+        let step = position.step(packets);
+        match step.answer {
             Answer::Token(token) => {
                 token_line(payload, places, token, out)?;
-            },
+            }
             Answer::End => {
                 return lines::text(out, b"end\n");
-            },
+            }
             Answer::Refused(number) => {
                 return lines::refused(out, number);
-            },
+            }
         }
-        steps -= 1;
+        position = step.next;
     }
     Ok(())
 }

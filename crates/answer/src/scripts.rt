@@ -65,15 +65,11 @@ pub(crate) fn packets(input: &[u8], out: &mut impl Write) -> io::Result<()> {
 
 // Packets of a size, one after another: a line each.
 fn packet_lines(packets: &[u8], size: u32, out: &mut impl Write) -> io::Result<()> {
-    let len = size as usize;
-    let mut start: usize = 0;
-    while start < packets.len() {
-        let next = start + len;
-        if next <= start {
-            return Ok(());
-        }
-        packet_line(wire::part_of(packets, Part { start, len }), out)?;
-        start = next;
+    if size == 0 {
+        return Ok(());
+    }
+    for packet in packets.chunks(size as usize) {
+        packet_line(packet, out)?;
     }
     Ok(())
 }
