@@ -1,6 +1,10 @@
-// The calls, a function each: it gets the input, puts its lines to out from at on, and answers the place after them.
+// The calls, a function each: it gets the input, and puts its lines behind what stands in out.
 use crate::{labels, lines, logins, procedures, replies, requests, scripts};
 use packet::{PacketHeader, PacketStatus, Parsed};
+use std::env::Env;
+use std::io;
+use std::io::Write;
+use wire::Part;
 
 #[derive(Clone, Copy)]
 pub(crate) enum Call {
@@ -24,98 +28,69 @@ pub(crate) enum Call {
 }
 
 // The call that an argument of the program names.
-pub(crate) fn named(argument: usize) -> Call {
+pub(crate) fn named(rt: &impl Env, argument: usize) -> Call {
     let mut name = [0u8; 16];
-    let n = os::arg(argument, &mut name);
-    let word = &name[..n];
-    if check::same(word, b"reply") {
-        return Call::Reply;
+    let n = console::argument(rt, argument, &mut name);
+    match wire::part_of(&name, Part { start: 0, len: n }) {
+        b"reply" => Call::Reply,
+        b"packets" => Call::Packets,
+        b"room" => Call::Room,
+        b"sized" => Call::Sized,
+        b"fit" => Call::Fit,
+        b"tokens" => Call::Tokens,
+        b"places" => Call::Places,
+        b"read_label" => Call::ReadLabel,
+        b"write_label" => Call::WriteLabel,
+        word => named_request(word),
     }
-    if check::same(word, b"packets") {
-        return Call::Packets;
-    }
-    if check::same(word, b"room") {
-        return Call::Room;
-    }
-    if check::same(word, b"sized") {
-        return Call::Sized;
-    }
-    if check::same(word, b"fit") {
-        return Call::Fit;
-    }
-    if check::same(word, b"tokens") {
-        return Call::Tokens;
-    }
-    if check::same(word, b"places") {
-        return Call::Places;
-    }
-    if check::same(word, b"read_label") {
-        return Call::ReadLabel;
-    }
-    if check::same(word, b"write_label") {
-        return Call::WriteLabel;
-    }
-    named_request(word)
 }
 
 // The call that a word names, of those that read what a client sends.
 fn named_request(word: &[u8]) -> Call {
-    if check::same(word, b"header") {
-        return Call::Header;
+    match word {
+        b"header" => Call::Header,
+        b"batch" => Call::Batch,
+        b"trans" => Call::Transaction,
+        b"descriptor" => Call::Descriptor,
+        b"fedauth" => Call::FedAuth,
+        b"login" => Call::Login,
+        b"rpc" => Call::Rpc,
+        _ => Call::Unknown,
     }
-    if check::same(word, b"batch") {
-        return Call::Batch;
-    }
-    if check::same(word, b"trans") {
-        return Call::Transaction;
-    }
-    if check::same(word, b"descriptor") {
-        return Call::Descriptor;
-    }
-    if check::same(word, b"fedauth") {
-        return Call::FedAuth;
-    }
-    if check::same(word, b"login") {
-        return Call::Login;
-    }
-    if check::same(word, b"rpc") {
-        return Call::Rpc;
-    }
-    Call::Unknown
 }
 
 // The lines of a call's answer.
-pub(crate) fn answer(call: Call, input: &[u8], out: &mut [u8], at: usize) -> usize {
+pub(crate) fn answer(call: Call, input: &[u8], out: &mut impl Write) -> io::Result<()> {
     match call {
-        Call::Reply => scripts::reply(input, out, at),
-        Call::Packets => scripts::packets(input, out, at),
-        Call::Room => scripts::room(input, out, at),
-        Call::Sized => scripts::sized(input, out, at),
-        Call::Fit => scripts::fit(input, out, at),
-        Call::Header => answer_header(input, out, at),
-        Call::Batch => requests::batch(input, out, at),
-        Call::Transaction => requests::transaction(input, out, at),
-        Call::Descriptor => requests::descriptor(input, out, at),
-        Call::FedAuth => requests::fedauth(input, out, at),
-        Call::Login => logins::answer(input, out, at),
-        Call::Rpc => procedures::answer(input, out, at),
-        Call::Tokens => replies::answer(input, false, out, at),
-        Call::Places => replies::answer(input, true, out, at),
-        Call::ReadLabel => labels::read(input, out, at),
-        Call::WriteLabel => labels::write(input, out, at),
-        Call::Unknown => at,
+        Call::Reply => scripts::reply(input, out),
+        Call::Packets => scripts::packets(input, out),
+        Call::Room => scripts::room(input, out),
+        Call::Sized => scripts::sized(input, out),
+        Call::Fit => scripts::fit(input, out),
+        Call::Header => answer_header(input, out),
+        Call::Batch => requests::batch(input, out),
+        Call::Transaction => requests::transaction(input, out),
+        Call::Descriptor => requests::descriptor(input, out),
+        Call::FedAuth => requests::fedauth(input, out),
+        Call::Login => logins::answer(input, out),
+        Call::Rpc => procedures::answer(input, out),
+        Call::Tokens => replies::answer(input, false, out),
+        Call::Places => replies::answer(input, true, out),
+        Call::ReadLabel => labels::read(input, out),
+        Call::WriteLabel => labels::write(input, out),
+        Call::Unknown => Ok(()),
     }
 }
 
-fn answer_header(input: &[u8], out: &mut [u8], at: usize) -> usize {
+fn answer_header(input: &[u8], out: &mut impl Write) -> io::Result<()> {
     match PacketHeader::parse(input) {
-        Parsed::Header(header) => header_line(header, out, at),
-        Parsed::Refused(number) => lines::refused(out, at, number),
+        Parsed::Header(header) => header_line(header, out),
+        Parsed::Refused(number) => lines::refused(out, number),
     }
 }
 
 // header TYPE STATUS LENGTH SPID NUMBER WINDOW eom=B ignore=B
-fn header_line(header: PacketHeader, out: &mut [u8], at: usize) -> usize {
+fn header_line(header: PacketHeader, out: &mut impl Write) -> io::Result<()> {
     let packet_type = header.packet_type;
     let numbers = [
         header.length as u64,
@@ -123,15 +98,15 @@ fn header_line(header: PacketHeader, out: &mut [u8], at: usize) -> usize {
         header.packet_id as u64,
         header.window as u64,
     ];
-    let at = lines::text(out, at, b"header");
-    let at = lines::bytes(out, at, &[packet_type.byte()]);
-    let at = lines::bytes(out, at, &[header.status.0]);
-    let at = lines::numbers(out, at, &numbers);
-    status_words(header.status, out, at)
+    lines::text(out, b"header")?;
+    lines::bytes(out, &[packet_type.byte()])?;
+    lines::bytes(out, &[header.status.0])?;
+    lines::numbers(out, &numbers)?;
+    status_words(header.status, out)
 }
 
-fn status_words(status: PacketStatus, out: &mut [u8], at: usize) -> usize {
-    let at = lines::flag(out, at, b" eom=", PacketStatus::is_end_of_message(status));
-    let at = lines::flag(out, at, b" ignore=", PacketStatus::is_ignore(status));
-    lines::end(out, at)
+fn status_words(status: PacketStatus, out: &mut impl Write) -> io::Result<()> {
+    lines::flag(out, b" eom=", PacketStatus::is_end_of_message(status))?;
+    lines::flag(out, b" ignore=", PacketStatus::is_ignore(status))?;
+    lines::end(out)
 }

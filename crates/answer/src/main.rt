@@ -14,48 +14,53 @@ mod runs;
 mod scripts;
 
 use calls::Call;
+use std::env::Env;
+use std::io;
+use std::io::{BufWriter, Write};
 
-fn main() {
+// The most bytes of lines that gather before they are written.
+const GATHERED: usize = 65536;
+
+fn main(rt: HostRuntime) -> io::Result<()> {
     let mut name = [0u8; 16];
-    let first = os::arg(1, &mut name);
-    if check::same(&name[..first], b"many") {
-        many(named_last(2, 3));
+    let first = console::argument(&rt, 1, &mut name);
+    if &name[..first] == b"many".as_slice() {
+        many(&rt, named_last(&rt, 2, 3))
     } else {
-        once(named_last(1, 2));
+        once(&rt, named_last(&rt, 1, 2))
     }
 }
 
 // The call that an argument names, where as many are given: the program's own name counts, and none follows the call's.
-fn named_last(argument: usize, count: usize) -> Call {
-    if os::arg_count() != count {
+fn named_last(rt: &impl Env, argument: usize, count: usize) -> Call {
+    if console::is_given(rt, count) {
         return Call::Unknown;
     }
-    calls::named(argument)
+    calls::named(rt, argument)
 }
 
-fn once(call: Call) {
+fn once<R: Input + Print + Eprint + Alloc>(rt: &R, call: Call) -> io::Result<()> {
     if let Call::Unknown = call {
-        return usage();
+        return usage(rt);
     }
     let mut input = [0u8; runs::ROOM];
-    let mut out = io::large_buffer();
-    let at = runs::once(call, &mut input, &mut out);
-    lines::flush(&out, at);
+    let mut out = BufWriter::with_capacity(rt.alloc(), GATHERED, io::writer(rt))?;
+    runs::once(call, &mut rt.reader(), &mut input, &mut out)?;
+    out.flush()
 }
 
-fn many(call: Call) {
+fn many<R: Input + Print + Eprint + Alloc>(rt: &R, call: Call) -> io::Result<()> {
     if let Call::Unknown = call {
-        return usage();
+        return usage(rt);
     }
     let mut input = [0u8; runs::ROOM];
-    let mut out = io::large_buffer();
-    let at = runs::many(call, &mut input, &mut out);
-    lines::flush(&out, at);
+    let mut out = BufWriter::with_capacity(rt.alloc(), GATHERED, io::writer(rt))?;
+    runs::many(call, &mut rt.reader(), &mut input, &mut out)?;
+    out.flush()
 }
 
-fn usage() {
-    io::write_all(
-        libc::STDERR_FILENO,
-        b"usage: answer [many] CALL < INPUT, where CALL is one of: reply packets room sized fit tokens places batch trans descriptor fedauth header login rpc read_label write_label\n",
-    );
+fn usage(rt: &impl Eprint) -> io::Result<()> {
+    rt.eprintln(
+        "usage: answer [many] CALL < INPUT, where CALL is one of: reply packets room sized fit tokens places batch trans descriptor fedauth header login rpc read_label write_label",
+    )
 }

@@ -6,7 +6,9 @@ use crate::lines;
 use cells::Value;
 use payload::frames::{Frame, Reached, Spotted};
 use payload::{frames, minus};
-use reader::{Answer, Position, Step, Token};
+use reader::{Answer, Position, Token};
+use std::io;
+use std::io::Write;
 use wire::Part;
 
 // No run takes more steps: a token takes a byte or more, packets have at most 131,072, and then comes the end or a refusal.
@@ -18,11 +20,11 @@ const CHUNK_LENGTH: usize = 4;
 const MOST_PAYLOAD: usize = 131072;
 
 // A line a token, then `end` or `refused N`. Where places are asked for, each part's follows it.
-pub(crate) fn answer(packets: &[u8], places: bool, out: &mut [u8], from: usize) -> usize {
+pub(crate) fn answer(packets: &[u8], places: bool, out: &mut impl Write) -> io::Result<()> {
     let mut joined = [0u8; MOST_PAYLOAD];
     let len = payload_of(packets, &mut joined);
     let payload = wire::part_of(&joined, Part { start: 0, len });
-    run(packets, payload, places, out, from)
+    run(packets, payload, places, out)
 }
 
 // The payload of packets, joined as far as their headers pass: how many bytes of the buffer it has.
@@ -38,8 +40,7 @@ fn join_from(packets: &[u8], first: Frame, joined: &mut [u8]) -> usize
     requires { lies packets.now first ≡ true }
 {
     let mut frame = first;
-    let mut turns = packets.len();
-    while turns > 0 {
+    for _ in 0..packets.len() {
         wire::put_slice(joined, frame.base, payload_in(packets, frame));
         match frames::reach(packets, frame, frame.end, 1) {
             Reached::Past(_) => {
@@ -49,7 +50,6 @@ fn join_from(packets: &[u8], first: Frame, joined: &mut [u8]) -> usize
                 frame = next;
             },
         }
-        turns -= 1;
     }
     frame.end
 }
@@ -64,36 +64,29 @@ fn payload_in(packets: &[u8], frame: Frame) -> &[u8]
 }
 
 // The lines of a run over packets; parts are those of their payload.
-fn run(packets: &[u8], payload: &[u8], places: bool, out: &mut [u8], from: usize) -> usize {
-    let mut at = from;
-    let mut step = Step {
-        answer: Answer::End,
-        next: Position::fresh(),
-    };
-    let mut steps = MOST_STEPS;
-    while steps > 0 {
-        let position = step.next;
-        step = position.step(packets);
-        let got = step.answer;
-        match got {
+fn run(packets: &[u8], payload: &[u8], places: bool, out: &mut impl Write) -> io::Result<()> {
+    let mut position = Position::fresh();
+    for _ in 0..MOST_STEPS {
+        let step = position.step(packets);
+        match step.answer {
             Answer::Token(token) => {
-                at = token_line(payload, places, token, out, at);
-            },
+                token_line(payload, places, token, out)?;
+            }
             Answer::End => {
-                return lines::text(out, at, b"end\n");
-            },
+                return lines::text(out, b"end\n");
+            }
             Answer::Refused(number) => {
-                return lines::refused(out, at, number);
-            },
+                return lines::refused(out, number);
+            }
         }
-        steps -= 1;
+        position = step.next;
     }
-    at
+    Ok(())
 }
 
-fn token_line(payload: &[u8], places: bool, token: Token, out: &mut [u8], at: usize) -> usize {
+fn token_line(payload: &[u8], places: bool, token: Token, out: &mut impl Write) -> io::Result<()> {
     match token {
-        Token::ColMetadata(count) => lines::number_line(out, at, b"81", count as u64),
+        Token::ColMetadata(count) => lines::number_line(out, b"81", count as u64),
         Token::Column {
             user_type,
             flags,
@@ -102,20 +95,20 @@ fn token_line(payload: &[u8], places: bool, token: Token, out: &mut [u8], at: us
             collation,
             name,
         } => {
-            let at = lines::text(out, at, b"col");
-            let at = lines::number(out, at, user_type as u64);
-            let at = lines::word(out, at, flags);
-            let at = lines::bytes(out, at, &[code]);
-            let at = lines::number(out, at, limit as u64);
-            two_parts(payload, places, collation, name, out, at)
+            lines::text(out, b"col")?;
+            lines::number(out, user_type as u64)?;
+            lines::word(out, flags)?;
+            lines::bytes(out, &[code])?;
+            lines::number(out, limit as u64)?;
+            two_parts(payload, places, collation, name, out)
         },
-        Token::Row => lines::text(out, at, b"D1\n"),
-        Token::Cell(value) => cell_line(payload, places, value, out, at),
+        Token::Row => lines::text(out, b"D1\n"),
+        Token::Cell(value) => cell_line(payload, places, value, out),
         Token::Done {
             status,
             command,
             count,
-        } => done_line(status, command, count, out, at),
+        } => done_line(status, command, count, out),
         Token::Message {
             kind,
             number,
@@ -127,29 +120,29 @@ fn token_line(payload: &[u8], places: bool, token: Token, out: &mut [u8], at: us
             line,
         } => {
             let numbers = [number as u64, state as u64, class as u64, line as u64];
-            let at = message_kind(out, at, kind);
-            let at = lines::numbers(out, at, &numbers);
-            let at = part(payload, places, text, out, at);
-            two_parts(payload, places, server, procedure, out, at)
+            message_kind(out, kind)?;
+            lines::numbers(out, &numbers)?;
+            part(payload, places, text, out)?;
+            two_parts(payload, places, server, procedure, out)
         },
     }
 }
 
 // FD STATUS COMMAND COUNT
-fn done_line(status: u16, command: u16, count: u64, out: &mut [u8], at: usize) -> usize {
-    let at = lines::text(out, at, b"FD");
-    let at = lines::word(out, at, status);
-    let at = lines::word(out, at, command);
-    let at = lines::number(out, at, count);
-    lines::end(out, at)
+fn done_line(status: u16, command: u16, count: u64, out: &mut impl Write) -> io::Result<()> {
+    lines::text(out, b"FD")?;
+    lines::word(out, status)?;
+    lines::word(out, command)?;
+    lines::number(out, count)?;
+    lines::end(out)
 }
 
 // AA for an error, AB for an info.
-fn message_kind(out: &mut [u8], at: usize, kind: u8) -> usize {
+fn message_kind(out: &mut impl Write, kind: u8) -> io::Result<()> {
     if kind == 0xAA {
-        lines::text(out, at, b"AA")
+        lines::text(out, b"AA")
     } else {
-        lines::text(out, at, b"AB")
+        lines::text(out, b"AB")
     }
 }
 
@@ -158,36 +151,35 @@ pub(crate) fn cell_line(
     payload: &[u8],
     places: bool,
     value: Value,
-    out: &mut [u8],
-    at: usize,
-) -> usize {
+    out: &mut impl Write,
+) -> io::Result<()> {
     match value {
         Value::Number(n) => {
-            let at = lines::text(out, at, b"num");
-            let at = signed(out, at, n);
-            lines::end(out, at)
+            lines::text(out, b"num")?;
+            signed(out, n)?;
+            lines::end(out)
         },
         Value::Part(held) => {
-            let at = lines::text(out, at, b"part");
-            let at = part(payload, places, held, out, at);
-            lines::end(out, at)
+            lines::text(out, b"part")?;
+            part(payload, places, held, out)?;
+            lines::end(out)
         },
         Value::Max(held) => {
-            let at = lines::text(out, at, b"part");
-            let at = max_part(payload, places, held, out, at);
-            lines::end(out, at)
+            lines::text(out, b"part")?;
+            max_part(payload, places, held, out)?;
+            lines::end(out)
         },
-        Value::Null => lines::text(out, at, b"null\n"),
+        Value::Null => lines::text(out, b"null\n"),
     }
 }
 
 // A number with its sign in decimal, after a space.
-fn signed(out: &mut [u8], at: usize, n: i64) -> usize {
+fn signed(out: &mut impl Write, n: i64) -> io::Result<()> {
     if n >= 0 {
-        return lines::number(out, at, magnitude(n));
+        return lines::number(out, magnitude(n));
     }
-    let at = lines::text(out, at, b" -");
-    lines::decimal(out, at, magnitude(n))
+    lines::text(out, b" -")?;
+    lines::decimal(out, magnitude(n))
 }
 
 // A number without its sign; that of the least number is no i64, so one is added after the cast.
@@ -205,44 +197,42 @@ fn two_parts(
     places: bool,
     first: Part,
     second: Part,
-    out: &mut [u8],
-    at: usize,
-) -> usize {
-    let at = part(payload, places, first, out, at);
-    let at = part(payload, places, second, out, at);
-    lines::end(out, at)
+    out: &mut impl Write,
+) -> io::Result<()> {
+    part(payload, places, first, out)?;
+    part(payload, places, second, out)?;
+    lines::end(out)
 }
 
 // A part's bytes, after a space.
-fn part(payload: &[u8], places: bool, held: Part, out: &mut [u8], at: usize) -> usize {
-    let at = lines::bytes(out, at, wire::part_of(payload, held));
-    place(places, held, out, at)
+fn part(payload: &[u8], places: bool, held: Part, out: &mut impl Write) -> io::Result<()> {
+    lines::bytes(out, wire::part_of(payload, held))?;
+    place(places, held, out)
 }
 
 // A Max part: its chunks' bytes joined, after a space.
-fn max_part(payload: &[u8], places: bool, held: Part, out: &mut [u8], at: usize) -> usize {
-    let at = joined(wire::part_of(payload, held), out, at);
-    place(places, held, out, at)
+fn max_part(payload: &[u8], places: bool, held: Part, out: &mut impl Write) -> io::Result<()> {
+    joined(wire::part_of(payload, held), out)?;
+    place(places, held, out)
 }
 
-fn joined(held: &[u8], out: &mut [u8], at: usize) -> usize {
+fn joined(held: &[u8], out: &mut impl Write) -> io::Result<()> {
     if held.len() <= CHUNK_LENGTH {
-        return lines::text(out, at, b" -");
+        return lines::text(out, b" -");
     }
-    let at = lines::text(out, at, b" ");
-    chunks(held, out, at)
+    lines::text(out, b" ")?;
+    chunks(held, out)
 }
 
-fn chunks(held: &[u8], out: &mut [u8], from: usize) -> usize {
-    let mut at = from;
+fn chunks(held: &[u8], out: &mut impl Write) -> io::Result<()> {
     let mut start = 0;
     while CHUNK_LENGTH <= wire::left(held, start) {
         let len = chunk_length(held, start);
         start += CHUNK_LENGTH;
-        at = lines::digits(out, at, wire::part_of(held, Part { start, len }));
+        lines::digits(out, wire::part_of(held, Part { start, len }))?;
         start += len;
     }
-    at
+    Ok(())
 }
 
 // The length of the chunk at a place, no more than what follows it.
@@ -256,12 +246,12 @@ fn chunk_length(held: &[u8], at: usize) -> usize
 }
 
 // @START+LENGTH, after a space, where places are asked for.
-fn place(places: bool, held: Part, out: &mut [u8], at: usize) -> usize {
+fn place(places: bool, held: Part, out: &mut impl Write) -> io::Result<()> {
     if !places {
-        return at;
+        return Ok(());
     }
-    let at = lines::text(out, at, b" @");
-    let at = lines::decimal(out, at, held.start as u64);
-    let at = lines::text(out, at, b"+");
-    lines::decimal(out, at, held.len as u64)
+    lines::text(out, b" @")?;
+    lines::decimal(out, held.start as u64)?;
+    lines::text(out, b"+")?;
+    lines::decimal(out, held.len as u64)
 }

@@ -1,10 +1,11 @@
-// Runs of a call over standard input. Both answer how many bytes of their lines stand in out.
-ghost use Rattle.std.specs.Prelude.{◌≤◌};
+// Runs of a call over an input, which is that of the program. Their lines go to out.
+ghost use Rattle.std.specs.Prelude.{◌≤◌, IfOk};
 
 use crate::calls::Call;
 use crate::{calls, lines};
-use libc::STDIN_FILENO;
 use refusals::INPUT_TOO_LONG;
+use std::io;
+use std::io::{Read, Write};
 use wire::Part;
 
 // The most bytes of an input, and of one that is a reply in packets or a label.
@@ -12,7 +13,7 @@ const MOST: usize = 65536;
 
 const MOST_LONG: usize = 131072;
 
-// The bytes of the lent input buffer: an input and the length of a next one.
+// The bytes of the lent buffer: an input and the length of a next one.
 pub(crate) const ROOM: usize = 131076;
 
 // The most bytes of a call's input.
@@ -23,127 +24,139 @@ fn most(call: Call) -> usize {
     }
 }
 
-// One answer: all of standard input is the input.
-pub(crate) fn once(call: Call, input: &mut [u8], out: &mut [u8]) -> usize {
-    let n = read_up_to(input, input.len());
+// One answer: all that can be read is the input.
+pub(crate) fn once<R: Read, W: Write>(
+    call: Call,
+    from: &mut R,
+    input: &mut [u8],
+    out: &mut W,
+) -> io::Result<()> {
+    let n = read_up_to(from, input, input.len())?;
     if n <= most(call) {
-        calls::answer(
-            call,
-            wire::part_of(input, Part { start: 0, len: n }),
-            out,
-            0,
-        )
+        calls::answer(call, wire::part_of(input, Part { start: 0, len: n }), out)
     } else {
-        lines::refused(out, 0, INPUT_TOO_LONG)
+        lines::refused(out, INPUT_TOO_LONG)
     }
 }
 
-// Where a run over many inputs stands: how many bytes stand in out, and the length of the next input, if there is one.
+// Where a run over many inputs stands: the length of the next input, if there is one.
 #[derive(Clone, Copy)]
 struct Run {
-    at: usize,
     len: u32,
     more: bool,
 }
 
-// An answer and an empty line for each input. Nothing says that standard input ends, and a proved loop does: the turns
-// count down from a number that no run uses up.
-pub(crate) fn many(call: Call, input: &mut [u8], out: &mut [u8]) -> usize {
-    let mut run = first(input);
-    let mut turns = u64::MAX;
-    while turns > 0 {
+// An answer and an empty line for each input. Nothing says that what is read ends, and a proved loop does: no run has so
+// many turns.
+pub(crate) fn many<R: Read, W: Write>(
+    call: Call,
+    from: &mut R,
+    input: &mut [u8],
+    out: &mut W,
+) -> io::Result<()> {
+    let mut run = first(from, input)?;
+    for _ in 0..u64::MAX {
         if !run.more {
             break;
         }
-        run = turn(call, input, out, run);
-        turns -= 1;
+        run = turn(call, from, input, out, run)?;
     }
-    run.at
+    Ok(())
 }
 
-fn first(input: &mut [u8]) -> Run {
-    let got = read_up_to(input, 4);
-    next(input, 0, 0, got == 4)
+fn first<R: Read>(from: &mut R, input: &mut [u8]) -> io::Result<Run> {
+    let got = read_up_to(from, input, 4)?;
+    Ok(next(input, 0, got == 4))
 }
 
-fn turn(call: Call, input: &mut [u8], out: &mut [u8], run: Run) -> Run {
+fn turn<R: Read, W: Write>(
+    call: Call,
+    from: &mut R,
+    input: &mut [u8],
+    out: &mut W,
+    run: Run,
+) -> io::Result<Run> {
     let len = run.len;
     if len as usize <= most(call) {
-        one(call, input, out, run)
+        one(call, from, input, out, run)
     } else {
-        over(input, out, run)
+        over(from, input, out, run)
     }
 }
 
 // An input, which is read together with the length of the next one. One that is cut short ends the run.
-fn one(call: Call, input: &mut [u8], out: &mut [u8], run: Run) -> Run {
+fn one<R: Read, W: Write>(
+    call: Call,
+    from: &mut R,
+    input: &mut [u8],
+    out: &mut W,
+    run: Run,
+) -> io::Result<Run> {
     let len = run.len as usize;
     let end = len + 4;
-    let got = read_up_to(input, end);
+    let got = read_up_to(from, input, end)?;
     if got < len {
-        return stopped(run.at);
+        return Ok(stopped());
     }
-    let at = calls::answer(
-        call,
-        wire::part_of(input, Part { start: 0, len }),
-        out,
-        run.at,
-    );
-    let at = lines::end(out, at);
-    next(input, at, len, got == end)
+    calls::answer(call, wire::part_of(input, Part { start: 0, len }), out)?;
+    lines::end(out)?;
+    Ok(next(input, len, got == end))
 }
 
 // An input over the most bytes of its call, which is passed over.
-fn over(input: &mut [u8], out: &mut [u8], run: Run) -> Run {
-    if !pass_over(input, run.len as usize) {
-        return stopped(run.at);
+fn over<R: Read, W: Write>(
+    from: &mut R,
+    input: &mut [u8],
+    out: &mut W,
+    run: Run,
+) -> io::Result<Run> {
+    if !pass_over(from, input, run.len as usize)? {
+        return Ok(stopped());
     }
-    let at = lines::refused(out, run.at, INPUT_TOO_LONG);
-    let at = lines::end(out, at);
-    let got = read_up_to(input, 4);
-    next(input, at, 0, got == 4)
+    lines::refused(out, INPUT_TOO_LONG)?;
+    lines::end(out)?;
+    let got = read_up_to(from, input, 4)?;
+    Ok(next(input, 0, got == 4))
 }
 
 // The run goes on with the length that stands at a place of the buffer, if it is whole.
-fn next(input: &[u8], at: usize, place: usize, whole: bool) -> Run {
+fn next(input: &[u8], place: usize, whole: bool) -> Run {
     if whole {
         Run {
-            at,
             len: wire::get_u32_le(input, place),
             more: true,
         }
     } else {
-        stopped(at)
+        stopped()
     }
 }
 
-fn stopped(at: usize) -> Run {
+fn stopped() -> Run {
     Run {
-        at,
         len: 0,
         more: false,
     }
 }
 
-// Reads n bytes and drops them; false where standard input ends before.
-fn pass_over(input: &mut [u8], n: usize) -> bool {
+// Reads n bytes and drops them; false where the input ends before.
+fn pass_over<R: Read>(from: &mut R, input: &mut [u8], n: usize) -> io::Result<bool> {
     let mut left = n;
     while 0 < left {
-        let got = read_up_to(input, left);
+        let got = read_up_to(from, input, left)?;
         if got == 0 {
-            return false;
+            return Ok(false);
         }
         left -= got;
     }
-    true
+    Ok(true)
 }
 
 // Reads up to n bytes, as many as the buffer has room for, to its front.
-fn read_up_to(input: &mut [u8], n: usize) -> usize
-    ensures { result ≤ n }
+fn read_up_to<R: Read>(from: &mut R, input: &mut [u8], n: usize) -> io::Result<usize>
+    ensures { IfOk result (λ k. k ≤ n) }
 {
     if n < input.len() {
-        return io::read_full(STDIN_FILENO, &mut input[..n]);
+        return console::read_full(from, &mut input[..n]);
     }
-    io::read_full(STDIN_FILENO, input)
+    console::read_full(from, input)
 }

@@ -2,6 +2,8 @@
 use crate::lines;
 use fit::{Fit, Misfit};
 use result::Built;
+use std::io;
+use std::io::Write;
 use wire::Part;
 
 // The most bytes of a packet, and of a reply in packets: 65,527 bytes in packets of 512.
@@ -13,7 +15,7 @@ const PACKETS: usize = 66575;
 const SIZE: usize = 4;
 
 // packet HEX
-pub(crate) fn reply(input: &[u8], out: &mut [u8], at: usize) -> usize {
+pub(crate) fn reply(input: &[u8], out: &mut impl Write) -> io::Result<()> {
     let mut packet = [0u8; PACKET];
     match result::build_query_results(input, &mut packet) {
         Built::Written(length) => packet_line(
@@ -25,14 +27,13 @@ pub(crate) fn reply(input: &[u8], out: &mut [u8], at: usize) -> usize {
                 },
             ),
             out,
-            at,
         ),
-        Built::Refused(number) => lines::refused(out, at, number),
+        Built::Refused(number) => lines::refused(out, number),
     }
 }
 
-fn packet_line(packet: &[u8], out: &mut [u8], at: usize) -> usize {
-    lines::bytes_line(out, at, b"packet", packet)
+fn packet_line(packet: &[u8], out: &mut impl Write) -> io::Result<()> {
+    lines::bytes_line(out, b"packet", packet)
 }
 
 // The script after a packet size.
@@ -47,7 +48,7 @@ fn after_size(input: &[u8]) -> &[u8] {
 }
 
 // packet HEX of each packet, of the size that stands before the script
-pub(crate) fn packets(input: &[u8], out: &mut [u8], at: usize) -> usize {
+pub(crate) fn packets(input: &[u8], out: &mut impl Write) -> io::Result<()> {
     let size = wire::get_u32_le(input, 0);
     let mut packets = [0u8; PACKETS];
     match result::build_query_results_in_packets(after_size(input), size as usize, &mut packets) {
@@ -56,77 +57,70 @@ pub(crate) fn packets(input: &[u8], out: &mut [u8], at: usize) -> usize {
                 start: 0,
                 len: length,
             };
-            packet_lines(wire::part_of(&packets, all), size, out, at)
+            packet_lines(wire::part_of(&packets, all), size, out)
         }
-        Built::Refused(number) => lines::refused(out, at, number),
+        Built::Refused(number) => lines::refused(out, number),
     }
 }
 
 // Packets of a size, one after another: a line each.
-fn packet_lines(packets: &[u8], size: u32, out: &mut [u8], at: usize) -> usize {
-    let len = size as usize;
-    let mut to = at;
-    let mut start: usize = 0;
-    while start < packets.len() {
-        let next = start + len;
-        if next <= start {
-            return to;
-        }
-        to = packet_line(wire::part_of(packets, Part { start, len }), out, to);
-        start = next;
+fn packet_lines(packets: &[u8], size: u32, out: &mut impl Write) -> io::Result<()> {
+    if size == 0 {
+        return Ok(());
     }
-    to
+    for packet in packets.chunks(size as usize) {
+        packet_line(packet, out)?;
+    }
+    Ok(())
 }
 
 // room N
-pub(crate) fn room(input: &[u8], out: &mut [u8], at: usize) -> usize {
-    room_line(result::room_estimate(input), out, at)
+pub(crate) fn room(input: &[u8], out: &mut impl Write) -> io::Result<()> {
+    room_line(result::room_estimate(input), out)
 }
 
 // room N, in packets of the size that stands before the script
-pub(crate) fn sized(input: &[u8], out: &mut [u8], at: usize) -> usize {
+pub(crate) fn sized(input: &[u8], out: &mut impl Write) -> io::Result<()> {
     let size = wire::get_u32_le(input, 0);
     room_line(
         result::room_in_packets(after_size(input), size as usize),
         out,
-        at,
     )
 }
 
-fn room_line(room: Built, out: &mut [u8], at: usize) -> usize {
+fn room_line(room: Built, out: &mut impl Write) -> io::Result<()> {
     match room {
-        Built::Written(n) => lines::number_line(out, at, b"room", n as u64),
-        Built::Refused(number) => lines::refused(out, at, number),
+        Built::Written(n) => lines::number_line(out, b"room", n as u64),
+        Built::Refused(number) => lines::refused(out, number),
     }
 }
 
 // fits, or the line of the first misfit
-pub(crate) fn fit(input: &[u8], out: &mut [u8], at: usize) -> usize {
+pub(crate) fn fit(input: &[u8], out: &mut impl Write) -> io::Result<()> {
     match fit::check(input) {
-        Fit::Yes => lines::text(out, at, b"fits\n"),
-        Fit::No(misfit) => misfit_line(misfit, out, at),
-        Fit::Refused(number) => lines::refused(out, at, number),
+        Fit::Yes => lines::text(out, b"fits\n"),
+        Fit::No(misfit) => misfit_line(misfit, out),
+        Fit::Refused(number) => lines::refused(out, number),
     }
 }
 
 // misfit class SET, misfit column SET COLUMN, misfit cell SET ROW COLUMN
-fn misfit_line(misfit: Misfit, out: &mut [u8], at: usize) -> usize {
+fn misfit_line(misfit: Misfit, out: &mut impl Write) -> io::Result<()> {
     match misfit {
-        Misfit::Classification { set } => places_line(out, at, b"misfit class", &[set as u64]),
+        Misfit::Classification { set } => places_line(out, b"misfit class", &[set as u64]),
         Misfit::Column { set, column } => {
-            places_line(out, at, b"misfit column", &[set as u64, column as u64])
+            places_line(out, b"misfit column", &[set as u64, column as u64])
         }
         Misfit::Cell { set, row, column } => places_line(
             out,
-            at,
             b"misfit cell",
             &[set as u64, row as u64, column as u64],
         ),
     }
 }
 
-fn places_line(out: &mut [u8], at: usize, word: &[u8], places: &[u64]) -> usize {
-    let at = lines::text(out, at, word);
-    let at = lines::numbers(out, at, places);
-    lines::end(out, at)
+fn places_line(out: &mut impl Write, word: &[u8], places: &[u64]) -> io::Result<()> {
+    lines::text(out, word)?;
+    lines::numbers(out, places)?;
+    lines::end(out)
 }

@@ -3,8 +3,9 @@
 #![tactic(auto)]
 
 use capture_marks::Marked;
-use libc::{STDERR_FILENO, STDIN_FILENO, STDOUT_FILENO};
+use itoa::Buffer;
 use refusals::INPUT_TOO_LONG;
+use std::io;
 use wire::Part;
 
 // The most bytes of a capture.
@@ -16,33 +17,33 @@ const MARKS: usize = 6553;
 // The most bytes of their lines: a record's number is under 10,923, and its line has 6 bytes at most.
 const LINES: usize = 39318;
 
-fn main() {
-    // The program's own name is one of those that are counted.
-    if os::arg_count() > 1 {
-        return usage();
+fn main(rt: HostRuntime) -> io::Result<()> {
+    // The program's own name is argument 0.
+    if console::is_given(&rt, 1) {
+        return usage(&rt);
     }
-    answer_input();
+    answer_input(&rt)
 }
 
-fn usage() {
-    io::write_all(STDERR_FILENO, b"usage: capture < CAPTURE\n");
+fn usage(rt: &impl Eprint) -> io::Result<()> {
+    rt.eprintln("usage: capture < CAPTURE")
 }
 
-fn answer_input() {
+fn answer_input(rt: &(impl Input + Print)) -> io::Result<()> {
     let mut input = [0u8; ROOM];
-    let n = io::read_full(STDIN_FILENO, &mut input);
+    let n = console::read_full(&mut rt.reader(), &mut input)?;
     if n <= MOST {
-        tell(wire::part_of(&input, Part { start: 0, len: n }));
+        tell(rt, wire::part_of(&input, Part { start: 0, len: n }))
     } else {
-        refused(INPUT_TOO_LONG);
+        refused(rt, INPUT_TOO_LONG)
     }
 }
 
-fn tell(capture: &[u8]) {
+fn tell(rt: &impl Print, capture: &[u8]) -> io::Result<()> {
     let mut numbers = [0u64; MARKS];
     match capture_marks::marks(capture, &mut numbers) {
-        Marked::Count(count) => write_numbers(first(&numbers, count)),
-        Marked::Refused(number) => refused(number),
+        Marked::Count(count) => write_numbers(rt, first(&numbers, count)),
+        Marked::Refused(number) => refused(rt, number),
     }
 }
 
@@ -55,39 +56,36 @@ fn first(numbers: &[u64], count: usize) -> &[u64] {
 }
 
 // A line for each number, all at once.
-fn write_numbers(numbers: &[u64]) {
+fn write_numbers(rt: &impl Print, numbers: &[u64]) -> io::Result<()> {
     let mut lines = [0u8; LINES];
     let at = put_numbers(numbers, &mut lines);
-    write(&lines, at);
+    write(rt, &lines, at)
 }
 
 fn put_numbers(numbers: &[u64], lines: &mut [u8]) -> usize {
     let mut at = 0;
-    let mut i = 0;
-    while i < numbers.len() {
-        at = put_line(lines, at, numbers[i]);
-        i += 1;
+    for number in numbers {
+        at = put_line(lines, at, *number);
     }
     at
 }
 
 // The line `refused N`.
-fn refused(number: u8) {
+fn refused(rt: &impl Print, number: u8) -> io::Result<()> {
     let mut line = [0u8; 32];
     let at = wire::put_slice(&mut line, 0, b"refused ");
     let at = put_line(&mut line, at, number as u64);
-    write(&line, at);
+    write(rt, &line, at)
 }
 
 // A number and the end of its line; the place after it.
 fn put_line(lines: &mut [u8], at: usize, number: u64) -> usize {
-    let mut digits = [0u8; 20];
-    let k = io::decimal(number, &mut digits);
-    let at = wire::put_slice(lines, at, &digits[..k]);
+    let mut digits = Buffer::new();
+    let at = wire::put_slice(lines, at, digits.format(number).as_bytes());
     wire::put_u8(lines, at, b'\n')
 }
 
 // The first of some bytes.
-fn write(bytes: &[u8], len: usize) {
-    io::write_all(STDOUT_FILENO, wire::part_of(bytes, Part { start: 0, len }));
+fn write(rt: &impl Print, bytes: &[u8], len: usize) -> io::Result<()> {
+    rt.write_all(wire::part_of(bytes, Part { start: 0, len }))
 }

@@ -37,7 +37,7 @@ pub(crate) fn is_refused(line: &[u8], buf: &[u8], refusal: u8) -> bool {
     }
     let mut out = [0u8; 32];
     let n = told::refused(&mut out, 0, refusal);
-    check::same(words::answer(line), wire::part_of(&out, calls::first(n)))
+    words::answer(line) == wire::part_of(&out, calls::first(n))
 }
 
 fn build_lent(line: &[u8], name: &[u8], buf: &mut [u8], lent: usize) -> Told {
@@ -49,13 +49,13 @@ fn build_lent(line: &[u8], name: &[u8], buf: &mut [u8], lent: usize) -> Told {
 
 // Builders by the beginning of their names.
 fn build(line: &[u8], name: &[u8], buf: &mut [u8]) -> Told {
-    if check::same(words::piece(name, 6, b'_'), b"query") {
+    if words::piece(name, 6, b'_') == b"query".as_slice() {
         return build_result(line, name, buf);
     }
-    if check::same(name, b"cut_payload") {
+    if name == b"cut_payload".as_slice() {
         return cut(line, buf);
     }
-    if check::same(words::piece(name, 6, b'_'), b"prelogin") {
+    if words::piece(name, 6, b'_') == b"prelogin".as_slice() {
         return build_prelogin(line, name, buf);
     }
     build_fixed(line, name, buf)
@@ -63,31 +63,26 @@ fn build(line: &[u8], name: &[u8], buf: &mut [u8]) -> Told {
 
 // Builders that take numbers, or nothing.
 fn build_fixed(line: &[u8], name: &[u8], buf: &mut [u8]) -> Told {
-    if check::same(name, b"build_login_ack") {
-        return told_of(response::build_login_ack(buf));
-    }
-    if check::same(name, b"build_attention_ack_packet") {
-        return told_of(response::build_attention_ack_packet(buf));
-    }
-    if check::same(name, b"build_transaction_manager_response") {
-        return told_of(response::build_transaction_manager_response(words::u16_at(line, 2), buf));
-    }
-    if check::same(name, b"build_done_token") {
-        return told_of(response::build_done_token(words::u64_at(line, 2), buf));
-    }
-    if check::same(name, b"build_done_token_with_status") {
-        return told_of(response::build_done_token_with_status(
+    match name {
+        b"build_login_ack" => told_of(response::build_login_ack(buf)),
+        b"build_attention_ack_packet" => told_of(response::build_attention_ack_packet(buf)),
+        b"build_transaction_manager_response" => {
+            let kind = words::u16_at(line, 2);
+            told_of(response::build_transaction_manager_response(kind, buf))
+        }
+        b"build_done_token" => told_of(response::build_done_token(words::u64_at(line, 2), buf)),
+        b"build_done_token_with_status" => told_of(response::build_done_token_with_status(
             words::u16_at(line, 2),
             words::u64_at(line, 3),
             buf,
-        ));
+        )),
+        _ => build_ack(line, name, buf),
     }
-    build_ack(line, name, buf)
 }
 
 // Replies to scripts: in packets, and as one packet under the four names of the Rust.
 fn build_result(line: &[u8], name: &[u8], buf: &mut [u8]) -> Told {
-    if check::same(name, b"build_query_results_in_packets") {
+    if name == b"build_query_results_in_packets".as_slice() {
         return build_packets(line, buf);
     }
     let mut space = spaces::zeros();
@@ -97,19 +92,17 @@ fn build_result(line: &[u8], name: &[u8], buf: &mut [u8]) -> Told {
 
 // Those of one packet.
 fn build_packet(name: &[u8], script: &[u8], buf: &mut [u8]) -> Told {
-    if check::same(name, b"build_query_results") {
-        return told_result(result::build_query_results(script, buf));
+    match name {
+        b"build_query_results" => told_result(result::build_query_results(script, buf)),
+        b"build_query_result" => told_result(result::build_query_result(script, buf)),
+        b"build_query_result_with_trailing_info" => told_result(
+            result::build_query_result_with_trailing_info(script, buf),
+        ),
+        b"build_query_result_with_extras" => told_result(result::build_query_result_with_extras(
+            script, buf,
+        )),
+        _ => unknown(),
     }
-    if check::same(name, b"build_query_result") {
-        return told_result(result::build_query_result(script, buf));
-    }
-    if check::same(name, b"build_query_result_with_trailing_info") {
-        return told_result(result::build_query_result_with_trailing_info(script, buf));
-    }
-    if check::same(name, b"build_query_result_with_extras") {
-        return told_result(result::build_query_result_with_extras(script, buf));
-    }
-    unknown()
 }
 
 // The same in packets of a size: LENT SCRIPT SIZE.
@@ -131,79 +124,74 @@ fn cut(line: &[u8], buf: &mut [u8]) -> Told {
 fn build_prelogin(line: &[u8], name: &[u8], buf: &mut [u8]) -> Told {
     let encryption = words::bool_at(line, 2);
     let fedauth = words::bool_at(line, 3);
-    if check::same(name, b"build_prelogin_response") {
-        return told_of(response::build_prelogin_response(buf));
+    match name {
+        b"build_prelogin_response" => told_of(response::build_prelogin_response(buf)),
+        b"build_prelogin_response_with_encryption" => told_of(
+            response::build_prelogin_response_with_encryption(encryption, buf),
+        ),
+        b"build_prelogin_response_with_fedauth" => told_of(
+            response::build_prelogin_response_with_fedauth(encryption, fedauth, buf),
+        ),
+        b"build_prelogin_response_with_options" => told_of(
+            response::build_prelogin_response_with_options(encryption, fedauth, buf),
+        ),
+        _ => unknown(),
     }
-    if check::same(name, b"build_prelogin_response_with_encryption") {
-        return told_of(response::build_prelogin_response_with_encryption(encryption, buf));
-    }
-    if check::same(name, b"build_prelogin_response_with_fedauth") {
-        return told_of(response::build_prelogin_response_with_fedauth(encryption, fedauth, buf));
-    }
-    if check::same(name, b"build_prelogin_response_with_options") {
-        return told_of(response::build_prelogin_response_with_options(encryption, fedauth, buf));
-    }
-    unknown()
 }
 
 // FEATUREEXTACK tokens.
 fn build_ack(line: &[u8], name: &[u8], buf: &mut [u8]) -> Told {
-    if check::same(name, b"build_feature_ext_ack_fedauth") {
-        return told_of(response::build_feature_ext_ack_fedauth(buf));
+    match name {
+        b"build_feature_ext_ack_fedauth" => told_of(response::build_feature_ext_ack_fedauth(buf)),
+        b"build_feature_ext_ack_data_classification" => {
+            let version = words::u8_at(line, 2);
+            told_of(response::build_feature_ext_ack_data_classification(version, buf))
+        }
+        b"build_feature_ext_ack_enhanced_routing" => {
+            let enabled = words::u8_at(line, 2);
+            told_of(response::build_feature_ext_ack_enhanced_routing(enabled, buf))
+        }
+        _ => {
+            let mut space = spaces::zeros();
+            let n = words::bytes_at(line, 2, &mut space);
+            build_first(line, name, wire::part_of(&space, calls::first(n)), buf)
+        }
     }
-    if check::same(name, b"build_feature_ext_ack_data_classification") {
-        return told_of(response::build_feature_ext_ack_data_classification(
-            words::u8_at(line, 2),
-            buf,
-        ));
-    }
-    if check::same(name, b"build_feature_ext_ack_enhanced_routing") {
-        return told_of(response::build_feature_ext_ack_enhanced_routing(
-            words::u8_at(line, 2),
-            buf,
-        ));
-    }
-    let mut space = spaces::zeros();
-    let n = words::bytes_at(line, 2, &mut space);
-    build_first(line, name, wire::part_of(&space, calls::first(n)), buf)
 }
 
 // Builders whose first argument is a text or a list.
 fn build_first(line: &[u8], name: &[u8], one: &[u8], buf: &mut [u8]) -> Told {
-    if check::same(name, b"build_feature_ext_ack") {
-        return told_of(response::build_feature_ext_ack(one, buf));
+    match name {
+        b"build_feature_ext_ack" => told_of(response::build_feature_ext_ack(one, buf)),
+        b"build_error_response" => told_of(response::build_error_response(one, buf)),
+        b"build_routing_envchange_token" => told_of(response::build_routing_envchange_token(
+            one,
+            words::u16_at(line, 3),
+            buf,
+        )),
+        b"build_routing_response" => told_of(response::build_routing_response(
+            one,
+            words::u16_at(line, 3),
+            buf,
+        )),
+        _ => build_second(line, name, one, buf),
     }
-    if check::same(name, b"build_error_response") {
-        return told_of(response::build_error_response(one, buf));
-    }
-    if check::same(name, b"build_routing_envchange_token") {
-        return told_of(response::build_routing_envchange_token(one, words::u16_at(line, 3), buf));
-    }
-    if check::same(name, b"build_routing_response") {
-        return told_of(response::build_routing_response(one, words::u16_at(line, 3), buf));
-    }
-    build_second(line, name, one, buf)
 }
 
 // Builders of two texts, or of a text and a list.
 fn build_second(line: &[u8], name: &[u8], one: &[u8], buf: &mut [u8]) -> Told {
     let mut space = spaces::zeros();
-    if check::same(words::piece(name, 6, b'_'), b"fedauth") {
+    if words::piece(name, 6, b'_') == b"fedauth".as_slice() {
         let n = words::bytes_at(line, 3, &mut space);
         return build_fedauth(name, one, wire::part_of(&space, calls::first(n)), buf);
     }
     let n = words::bytes_at(line, 4, &mut space);
     let two = wire::part_of(&space, calls::first(n));
-    if check::same(name, b"build_enhanced_routing_envchange_token") {
-        return told_of(response::build_enhanced_routing_envchange_token(
-            one,
-            words::u16_at(line, 3),
-            two,
-            buf,
-        ));
-    }
-    if check::same(name, b"build_routing_login_response") {
-        return told_of(response::build_routing_login_response(
+    match name {
+        b"build_enhanced_routing_envchange_token" => told_of(
+            response::build_enhanced_routing_envchange_token(one, words::u16_at(line, 3), two, buf),
+        ),
+        b"build_routing_login_response" => told_of(response::build_routing_login_response(
             one,
             words::u16_at(line, 3),
             two,
@@ -211,9 +199,9 @@ fn build_second(line: &[u8], name: &[u8], one: &[u8], buf: &mut [u8]) -> Told {
             acknowledgement(words::u16_at(line, 6)),
             words::bool_at(line, 7),
             buf,
-        ));
+        )),
+        _ => build_message(line, name, two, buf),
     }
-    build_message(line, name, two, buf)
 }
 
 // The acknowledgement of enhanced routing that a number stands for: a byte, and none from 256 on.
@@ -225,29 +213,29 @@ fn acknowledgement(ack: u16) -> Acknowledgement {
 }
 
 fn build_fedauth(name: &[u8], url: &[u8], spn: &[u8], buf: &mut [u8]) -> Told {
-    if check::same(name, b"build_fedauth_challenge_response") {
-        return told_of(response::build_fedauth_challenge_response(url, spn, buf));
+    match name {
+        b"build_fedauth_challenge_response" => told_of(response::build_fedauth_challenge_response(
+            url, spn, buf,
+        )),
+        b"build_fedauth_info_token" => told_of(response::build_fedauth_info_token(url, spn, buf)),
+        _ => unknown(),
     }
-    if check::same(name, b"build_fedauth_info_token") {
-        return told_of(response::build_fedauth_info_token(url, spn, buf));
-    }
-    unknown()
 }
 
 // INFO and ERROR tokens; the message of an error is their third argument.
 fn build_message(line: &[u8], name: &[u8], message: &[u8], buf: &mut [u8]) -> Told {
     let number = words::u32_at(line, 2);
     let severity = words::u8_at(line, 3);
-    if check::same(name, b"build_leading_error_tokens") {
-        return told_of(response::build_leading_error_tokens(number, severity, message, buf));
+    match name {
+        b"build_leading_error_tokens" => told_of(response::build_leading_error_tokens(
+            number, severity, message, buf,
+        )),
+        b"build_terminal_error_tokens" => told_of(response::build_terminal_error_tokens(
+            number, severity, message, buf,
+        )),
+        b"build_info_token" => build_info(line, number, buf),
+        _ => unknown(),
     }
-    if check::same(name, b"build_terminal_error_tokens") {
-        return told_of(response::build_terminal_error_tokens(number, severity, message, buf));
-    }
-    if check::same(name, b"build_info_token") {
-        return build_info(line, number, buf);
-    }
-    unknown()
 }
 
 fn build_info(line: &[u8], number: u32, buf: &mut [u8]) -> Told {

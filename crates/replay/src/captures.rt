@@ -33,10 +33,8 @@ fn marks_lent(capture: &[u8], slots: &mut [u64], lent: usize) -> Marked {
 // The first slots, and a word that no line holds where one of the others was written.
 fn tell_slots(slots: &[u64], count: usize, out: &mut [u8], from: usize) -> usize {
     let mut at = from;
-    let mut i = 0;
-    while i < slots.len() {
-        at = tell_slot(slots[i], i < count, out, at);
-        i += 1;
+    for (i, slot) in slots.iter().enumerate() {
+        at = tell_slot(*slot, i < count, out, at);
     }
     at
 }

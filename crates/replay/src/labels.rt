@@ -7,7 +7,7 @@ pub(crate) fn holds(line: &[u8], name: &[u8]) -> bool {
     let mut space = spaces::zeros();
     let n = words::bytes_at(line, 2, &mut space);
     let input = wire::part_of(&space, calls::first(n));
-    if check::same(name, b"read_label") {
+    if name == b"read_label".as_slice() {
         return is_read(line, input);
     }
     is_written(line, input)
@@ -34,7 +34,7 @@ fn is_null(line: &[u8], buf: &[u8]) -> bool {
     if !calls::is_kept(buf, 0) {
         return false;
     }
-    check::same(words::answer(line), b"null")
+    words::answer(line) == b"null".as_slice()
 }
 
 fn is_written(line: &[u8], text: &[u8]) -> bool {
@@ -59,7 +59,7 @@ fn is_told(line: &[u8], word: &[u8], buf: &[u8], len: usize) -> bool {
         return false;
     }
     let told = words::answer(line);
-    if !check::same(words::word(told, 0), word) {
+    if words::word(told, 0) != word {
         return false;
     }
     calls::same_word(words::word(told, 1), wire::part_of(buf, calls::first(len)))

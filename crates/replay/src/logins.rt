@@ -79,10 +79,8 @@ fn tell_text(text: Text, out: &mut [u8], at: usize) -> usize {
 
 fn tell_ids(ids: &[u8], out: &mut [u8], from: usize) -> usize {
     let mut at = from;
-    let mut i = 0;
-    while i < ids.len() {
-        at = told::number(out, at, wide(ids[i]));
-        i += 1;
+    for id in ids {
+        at = told::number(out, at, wide(*id));
     }
     at
 }

@@ -18,12 +18,16 @@ mod spaces;
 mod told;
 mod words;
 
-fn main() {
+use std::io;
+
+fn main(rt: HostRuntime) -> io::Result<()> {
     let mut list = spaces::list();
-    let n = io::read_full(libc::STDIN_FILENO, &mut list);
+    let n = console::read_full(&mut rt.reader(), &mut list)?;
+    let mut out = io::writer(&rt);
     if n < spaces::LIST {
-        runs::report(runs::over(&list[..n]));
+        let run = runs::over(&list[..n], &mut out)?;
+        runs::report(run, &mut out)
     } else {
-        runs::print(b"the list is too long\n");
+        runs::print(&mut out, b"the list is too long\n")
     }
 }

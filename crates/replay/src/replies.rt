@@ -10,23 +10,20 @@ const MOST_STEPS: usize = 131073;
 pub(crate) fn tokens(packets: &[u8], out: &mut [u8]) -> usize {
     let mut at = 0;
     let mut position = Position::fresh();
-    let mut steps = MOST_STEPS;
-    while steps > 0 {
+    for _ in 0..MOST_STEPS {
         let step = position.step(packets);
-        let got = step.answer;
-        match got {
+        match step.answer {
             Answer::Token(token) => {
                 at = tell_token(token, out, at);
-            },
+            }
             Answer::End => {
                 return told::word(out, at, b"end");
-            },
+            }
             Answer::Refused(number) => {
                 return told::refused(out, at, number);
-            },
+            }
         }
         position = step.next;
-        steps -= 1;
     }
     at
 }

@@ -1,6 +1,8 @@
 // A run over a list, line by line. A line that is empty or begins with `#` is a comment.
 use crate::{calls, words};
-use libc::STDOUT_FILENO;
+use itoa::Buffer;
+use std::io;
+use std::io::Write;
 use wire::Part;
 
 // Where a run stands: the place of the next line, the number of the last one, the function whose lines are being
@@ -54,36 +56,35 @@ impl Run {
 
 // Counts stay far below 2^64.
 fn one_more(n: u64) -> u64 {
-    std::num::wrapping_add_u64(n, 1)
+    n.wrapping_add(1)
 }
 
-// The whole list. The turns count down from its length, since a line takes a byte or more.
-pub(crate) fn over(list: &[u8]) -> Run {
+// The whole list. No list has more lines than bytes, since a line takes a byte or more.
+pub(crate) fn over(list: &[u8], out: &mut impl Write) -> io::Result<Run> {
     let mut run = Run::fresh();
-    let mut turns = list.len();
-    while turns > 0 {
+    for _ in 0..list.len() {
         if list.len() <= run.at {
             break;
         }
-        run = turn(list, run);
-        turns -= 1;
+        run = turn(list, run, out)?;
     }
-    print_count(list, run);
-    run
+    print_count(list, run, out)?;
+    Ok(run)
 }
 
-fn turn(list: &[u8], run: Run) -> Run {
+fn turn(list: &[u8], run: Run, out: &mut impl Write) -> io::Result<Run> {
     let at = run.at;
     let line = words::piece(list, at, b'\n');
     let run = run.passed(words::past(list, at, b'\n'));
     if is_comment(line) {
-        return run;
+        return Ok(run);
     }
     let name = Part {
         start: at,
         len: words::span(line, 0, b' '),
     };
-    replayed(line, begun(list, run, name))
+    let run = begun(list, run, name, out)?;
+    replayed(line, run, out)
 }
 
 fn is_comment(line: &[u8]) -> bool {
@@ -94,44 +95,46 @@ fn is_comment(line: &[u8]) -> bool {
 }
 
 // The count of a function's lines ends where another's begin.
-fn begun(list: &[u8], run: Run, name: Part) -> Run {
+fn begun(list: &[u8], run: Run, name: Part, out: &mut impl Write) -> io::Result<Run> {
     let held = run.name;
-    if check::same(wire::part_of(list, held), wire::part_of(list, name)) {
-        return run;
+    if wire::part_of(list, held) == wire::part_of(list, name) {
+        return Ok(run);
     }
-    print_count(list, run);
-    run.named(name)
+    print_count(list, run, out)?;
+    Ok(run.named(name))
 }
 
-fn replayed(line: &[u8], run: Run) -> Run {
+fn replayed(line: &[u8], run: Run, out: &mut impl Write) -> io::Result<Run> {
     let same = calls::holds(line);
     if !same {
-        print_number(b"line ", run.line, b" differs\n");
+        print_number(out, b"line ", run.line, b" differs\n")?;
     }
-    run.counted(same)
+    Ok(run.counted(same))
 }
 
 // NAME COUNT
-fn print_count(list: &[u8], run: Run) {
-    if run.count != 0 {
-        let name = run.name;
-        print(wire::part_of(list, name));
-        print_number(b" ", run.count, b"\n");
+fn print_count(list: &[u8], run: Run, out: &mut impl Write) -> io::Result<()> {
+    if run.count == 0 {
+        return Ok(());
     }
+    let name = run.name;
+    print(out, wire::part_of(list, name))?;
+    print_number(out, b" ", run.count, b"\n")
 }
 
 // replayed LINES, COUNT differ
-pub(crate) fn report(run: Run) {
-    print_number(b"replayed ", run.lines, b", ");
-    print_number(b"", run.differ, b" differ\n");
+pub(crate) fn report(run: Run, out: &mut impl Write) -> io::Result<()> {
+    print_number(out, b"replayed ", run.lines, b", ")?;
+    print_number(out, b"", run.differ, b" differ\n")
 }
 
-fn print_number(before: &[u8], n: u64, after: &[u8]) {
-    print(before);
-    io::print_decimal(STDOUT_FILENO, n);
-    print(after);
+fn print_number(out: &mut impl Write, before: &[u8], n: u64, after: &[u8]) -> io::Result<()> {
+    let mut digits = Buffer::new();
+    print(out, before)?;
+    print(out, digits.format(n).as_bytes())?;
+    print(out, after)
 }
 
-pub(crate) fn print(text: &[u8]) {
-    io::write_all(STDOUT_FILENO, text);
+pub(crate) fn print(out: &mut impl Write, text: &[u8]) -> io::Result<()> {
+    out.write_all(text)
 }

@@ -1,5 +1,6 @@
 // What a call answered, as the list writes it: words with a space between them, to a lent buffer from a place on.
 // Each function answers the place after its word.
+use itoa::Buffer;
 
 // A word as it is.
 pub(crate) fn word(out: &mut [u8], at: usize, bytes: &[u8]) -> usize {
@@ -23,17 +24,14 @@ pub(crate) fn number(out: &mut [u8], at: usize, n: u64) -> usize {
 
 // Its digits alone.
 pub(crate) fn digits(out: &mut [u8], at: usize, n: u64) -> usize {
-    let mut spelled = [0u8; 20];
-    let k = io::decimal(n, &mut spelled);
-    wire::put_slice(out, at, &spelled[..k])
+    let mut spelled = Buffer::new();
+    wire::put_slice(out, at, spelled.format(n).as_bytes())
 }
 
 pub(crate) fn numbers(out: &mut [u8], from: usize, values: &[u64]) -> usize {
     let mut at = from;
-    let mut i = 0;
-    while i < values.len() {
-        at = number(out, at, values[i]);
-        i += 1;
+    for value in values {
+        at = number(out, at, *value);
     }
     at
 }

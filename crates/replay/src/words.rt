@@ -4,14 +4,14 @@ use wire::Part;
 
 // How many bytes stand at a place before the next mark, or before the end.
 pub(crate) fn span(s: &[u8], from: usize, mark: u8) -> usize {
-    let mut n = 0;
-    while n < wire::left(s, from) {
-        if s[from + n] == mark {
+    let len = wire::left(s, from);
+    let rest = wire::part_of(s, Part { start: from, len });
+    for (n, byte) in rest.iter().enumerate() {
+        if *byte == mark {
             return n;
         }
-        n += 1;
     }
-    n
+    len
 }
 
 // The bytes at a place before the next mark.
@@ -32,10 +32,8 @@ pub(crate) fn past(s: &[u8], from: usize, mark: u8) -> usize {
 // A word of a line by its number; the first, which is the function's name, is 0.
 pub(crate) fn word(line: &[u8], number: usize) -> &[u8] {
     let mut at = 0;
-    let mut left = number;
-    while left > 0 {
+    for _ in 0..number {
         at = past(line, at, b' ');
-        left -= 1;
     }
     piece(line, at, b' ')
 }
@@ -51,19 +49,14 @@ pub(crate) fn answer(line: &[u8]) -> &[u8] {
 // The number of decimal digits, modulo 2^64.
 pub(crate) fn number(digits: &[u8]) -> u64 {
     let mut n = 0;
-    let mut i = 0;
-    while i < digits.len() {
-        n = std::num::wrapping_add_u64(ten_times(n), digit(digits[i]) as u64);
-        i += 1;
+    for byte in digits {
+        n = ten_times(n).wrapping_add(digit(*byte) as u64);
     }
     n
 }
 
 fn ten_times(n: u64) -> u64 {
-    let twice = std::num::wrapping_add_u64(n, n);
-    let fourfold = std::num::wrapping_add_u64(twice, twice);
-    let eightfold = std::num::wrapping_add_u64(fourfold, fourfold);
-    std::num::wrapping_add_u64(eightfold, twice)
+    n.wrapping_mul(10)
 }
 
 // The value of a digit, upper-case where it is a letter; 0 for what is none.
@@ -104,11 +97,9 @@ pub(crate) fn bytes_at(line: &[u8], place: usize, space: &mut [u8]) -> usize {
 pub(crate) fn bytes(runs: &[u8], space: &mut [u8]) -> usize {
     let mut from = 0;
     let mut at = 0;
-    let mut left = runs.len();
-    while left > 0 {
+    for _ in 0..runs.len() {
         at = put_run(piece(runs, from, b','), space, at);
         from = past(runs, from, b',');
-        left -= 1;
     }
     at
 }
@@ -124,10 +115,8 @@ fn put_run(run: &[u8], space: &mut [u8], at: usize) -> usize {
 
 fn put_times(digits: &[u8], count: u64, space: &mut [u8], from: usize) -> usize {
     let mut at = from;
-    let mut left = count;
-    while left > 0 {
+    for _ in 0..count {
         at = put_pairs(digits, space, at);
-        left -= 1;
     }
     at
 }

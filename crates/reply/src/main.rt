@@ -1,9 +1,10 @@
 // `reply`: a script on standard input; its reply packet, raw, or the line `refused N`. It takes no arguments.
 #![tactic(auto)]
 
-use libc::{STDERR_FILENO, STDIN_FILENO, STDOUT_FILENO};
+use itoa::Buffer;
 use refusals::INPUT_TOO_LONG;
 use result::Built;
+use std::io;
 use wire::Part;
 
 // The most bytes of a script.
@@ -13,53 +14,55 @@ const ROOM: usize = 65537;
 // The most bytes of a packet.
 const PACKET: usize = 65535;
 
-fn main() {
-    // The program's own name is one of those that are counted.
-    if os::arg_count() > 1 {
-        return usage();
+fn main(rt: HostRuntime) -> io::Result<()> {
+    // The program's own name is argument 0.
+    if console::is_given(&rt, 1) {
+        return usage(&rt);
     }
-    answer_input();
+    answer_input(&rt)
 }
 
-fn usage() {
-    io::write_all(STDERR_FILENO, b"usage: reply < SCRIPT\n");
+fn usage(rt: &impl Eprint) -> io::Result<()> {
+    rt.eprintln("usage: reply < SCRIPT")
 }
 
-fn answer_input() {
+fn answer_input(rt: &(impl Input + Print)) -> io::Result<()> {
     let mut input = [0u8; ROOM];
-    let n = io::read_full(STDIN_FILENO, &mut input);
+    let n = console::read_full(&mut rt.reader(), &mut input)?;
     if n <= MOST {
-        reply(wire::part_of(&input, Part { start: 0, len: n }));
+        reply(rt, wire::part_of(&input, Part { start: 0, len: n }))
     } else {
-        refused(INPUT_TOO_LONG);
+        refused(rt, INPUT_TOO_LONG)
     }
 }
 
-fn reply(script: &[u8]) {
+fn reply(rt: &impl Print, script: &[u8]) -> io::Result<()> {
     let mut packet = [0u8; PACKET];
     match result::build_query_results(script, &mut packet) {
-        Built::Written(length) => write(wire::part_of(
-            &packet,
-            Part {
-                start: 0,
-                len: length,
-            },
-        )),
-        Built::Refused(number) => refused(number),
+        Built::Written(length) => write(
+            rt,
+            wire::part_of(
+                &packet,
+                Part {
+                    start: 0,
+                    len: length,
+                },
+            ),
+        ),
+        Built::Refused(number) => refused(rt, number),
     }
 }
 
 // The line `refused N`.
-fn refused(number: u8) {
+fn refused(rt: &impl Print, number: u8) -> io::Result<()> {
     let mut line = [0u8; 32];
-    let mut digits = [0u8; 20];
-    let k = io::decimal(number as u64, &mut digits);
+    let mut digits = Buffer::new();
     let at = wire::put_slice(&mut line, 0, b"refused ");
-    let at = wire::put_slice(&mut line, at, &digits[..k]);
+    let at = wire::put_slice(&mut line, at, digits.format(number).as_bytes());
     let at = wire::put_u8(&mut line, at, b'\n');
-    write(wire::part_of(&line, Part { start: 0, len: at }));
+    write(rt, wire::part_of(&line, Part { start: 0, len: at }))
 }
 
-fn write(bytes: &[u8]) {
-    io::write_all(STDOUT_FILENO, bytes);
+fn write(rt: &impl Print, bytes: &[u8]) -> io::Result<()> {
+    rt.write_all(bytes)
 }
