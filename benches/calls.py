@@ -28,7 +28,7 @@ def exported():
     """The groups that the library exports."""
     archive = LIBRARY / "libstation.a"
     if not archive.exists():
-        sys.exit(f"there is no {archive}: rt staticlib station")
+        sys.exit(f"there is no {archive}: tools/build station")
     names = table.said(["nm", "--defined-only", archive]).split()
     return [group for group, export in EXPORTS.items() if export in names]
 

@@ -152,7 +152,7 @@ def measured(chosen):
     if not cases:
         return HEADS, [], growth
     if not PROGRAM.exists():
-        sys.exit(f"there is no {PROGRAM}: rt check answer")
+        sys.exit(f"there is no {PROGRAM}: tools/build answer")
     if PROGRAM.read_bytes()[:4] != b"\x7fELF":
         sys.exit(f"{PROGRAM} is a script: its shell would be counted")
     table.TARGET.mkdir(parents=True, exist_ok=True)

@@ -13,11 +13,11 @@ ROOT = pathlib.Path(__file__).resolve().parent.parent
 MOST, SHOWN, BEFORE = 20, 1_000, 40
 # What makes a program, by its place below the top folder; what brings one that is installed, by its name.
 MADE_BY = {
-    "target/bin/answer": "rt check answer",
-    "target/bin/capture": "rt check capture",
-    "target/bin/replay": "rt check replay",
-    "target/bin/reply": "rt check reply",
-    "target/staticlib/libstation.a": "rt staticlib station",
+    "target/bin/answer": "tools/build answer",
+    "target/bin/capture": "tools/build capture",
+    "target/bin/replay": "tools/build replay",
+    "target/bin/reply": "tools/build reply",
+    "target/staticlib/libstation.a": "tools/build station",
 }
 BROUGHT_BY = {"cargo": "a Rust toolchain (rustup.rs)", "tshark": "apt-get install tshark", "gcc": "apt-get install gcc"}
 

@@ -42,7 +42,7 @@ left out is. A kind that is not known, or a payload that has not its kind's shap
 cut is a line `bytes`. A chunk of a cell NVarCharMax is a text, another one bytes. Characters that do not print are
 escaped. What `show` writes, `compose` turns into the same bytes again, whatever they are.
 
-`try` asks target/bin/answer, which `rt check reply answer` makes, and prints its answers in words: the refusal or the
+`try` asks target/bin/answer, which `tools/build reply answer` makes, and prints its answers in words: the refusal or the
 misfit with the line of the text at fault, the reply's length, and its tokens. Its exit status is 0 where the script is
 accepted, fits, and its reply is read to the end, else 1. To try a script's bytes, show them first:
 tools/script.py show FILE | tools/script.py try

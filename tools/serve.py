@@ -9,7 +9,7 @@ warning, since clients may not read its reply.
 
 First it prints `listening on 127.0.0.1:PORT`, then a line for each script and for each request with its answer. Ctrl-C
 ends it. Any user and password are let in: they are not looked at. All that a client says is read, and all that it hears
-is written, by the calls of target/staticlib/libstation.a (`rt staticlib station` makes it; gcc links it).
+is written, by the calls of target/staticlib/libstation.a (`tools/build station` makes it; gcc links it).
 
 Which script answers a batch:
 - of what clients send by themselves, texts that begin with SET, USE, BEGIN, COMMIT, ROLLBACK, `SELECT @@` or `IF @@`,

@@ -10,7 +10,7 @@ import tempfile
 
 TOP = pathlib.Path(__file__).resolve().parent.parent
 ARCHIVE = TOP / "target/staticlib/libstation.a"
-MAKE = "`rt staticlib station` makes it"
+MAKE = "`tools/build station` makes it"
 MOST_PACKETS = 66_575
 NO_PART = 2**64 - 1
 HEADER = 8

@@ -16,7 +16,7 @@ import token_words
 from reasons import counted
 
 ANSWER = pathlib.Path(__file__).resolve().parent.parent / "target/bin/answer"
-MISSING = "target/bin/answer is missing or cannot be run; this makes it: rt check reply answer"
+MISSING = "target/bin/answer is missing or cannot be run; this makes it: tools/build reply answer"
 # Refusals that come from a record of the script: from that one on, the first records are refused as the whole is.
 OF_A_RECORD = range(11, 18)
 PROBES = 32
@@ -36,7 +36,7 @@ def ask(call, inputs):
         raise NoAnswer(MISSING) from error
     *answers, rest = said.split("\n\n")
     if rest or len(answers) != len(inputs):
-        raise NoAnswer("target/bin/answer says nothing of some inputs; this makes it anew: rt check reply answer")
+        raise NoAnswer("target/bin/answer says nothing of some inputs; this makes it anew: tools/build reply answer")
     return [answer.split("\n") for answer in answers]
 
 

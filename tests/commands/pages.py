@@ -109,7 +109,7 @@ def named(lines):
 
 def copy(root, scratch):
     """A copy of the tree, as a reader of the pages has it: with the programs and the archive."""
-    left_out = shutil.ignore_patterns("__pycache__")
+    left_out = shutil.ignore_patterns("__pycache__", "out")
     for item in root.iterdir():
         if item.name in (".git", "target"):
             continue
@@ -117,23 +117,28 @@ def copy(root, scratch):
             shutil.copytree(item, scratch / item.name, symlinks=True, ignore=left_out)
         else:
             shutil.copy2(item, scratch / item.name)
-    copy_parts(root, scratch, ("bin", "log", "obj", "staticlib"))
-
-
-def copy_parts(root, scratch, parts):
-    for name in parts:
+    for name in ("bin", "staticlib"):
         if (root / "target" / name).is_dir():
             shutil.copytree(root / "target" / name, scratch / "target" / name)
 
 
+def copy_built(root, scratch):
+    """What rt keeps of the programs, by which it sees that one has not changed since it was proved and built."""
+    for stamp in root.glob("crates/*/out/*.stamp"):
+        for file in (stamp, stamp.with_suffix("")):
+            place = scratch / file.relative_to(root)
+            place.parent.mkdir(exist_ok=True)
+            shutil.copy2(file, place)
+
+
 def outputs(tree, found):
-    """The lines that the commands of a page print, one after the other in a copy of the tree. Only where one of them calls
-    rt has the copy what is proved, hundreds of megabytes; it is the top folder's."""
+    """The lines that the commands of a page print, one after the other in a copy of the tree. Where one of them builds a
+    program, the copy has what the top folder keeps of those that are built."""
     with tempfile.TemporaryDirectory() as folder:
         scratch = pathlib.Path(folder)
         copy(tree, scratch)
-        if any(re.search(r"\brt ", shown.text) for shown in found):
-            copy_parts(ROOT, scratch, ("rlib", "stamp"))
+        if any(re.search(r"\btools/build\b", shown.text) for shown in found):
+            copy_built(ROOT, scratch)
         return [output(shown.text, scratch).splitlines() for shown in found]
 
 

@@ -78,7 +78,7 @@ def compare_encodings(tally):
 def compare_other_programs(tally):
     """`try` where the program is missing, broken, or says what the tool has no words for: no traceback, and no other
     number than the program's."""
-    said = "tools/script.py: target/bin/answer is missing or cannot be run; this makes it: rt check reply answer\n"
+    said = "tools/script.py: target/bin/answer is missing or cannot be run; this makes it: tools/build reply answer\n"
     with tempfile.TemporaryDirectory() as name:
         top = pathlib.Path(name)
         shutil.copytree(ROOT / "tools", top / "tools", ignore=shutil.ignore_patterns("__pycache__"))

@@ -1,7 +1,7 @@
 """The commands of docs/COURSE.md and the output that the page shows for them, run as a reader of the page would.
 
 In a block of the page that is marked `console`, a line `$ ..` is a command and the others are what it prints. A block
-without a mark holds what has to be done before; there is one, `rt check reply answer`.
+without a mark holds what has to be done before; there is one, `tools/build reply answer`.
 """
 import os
 import pathlib
@@ -11,7 +11,7 @@ import subprocess
 import tempfile
 
 BLOCK = re.compile(r"^```(\w*)\n(.*?)^```$", re.M | re.S)
-BEFORE = "rt check reply answer\n"
+BEFORE = "tools/build reply answer\n"
 # The refusals that the page has to show: a request's, a script's and a packet's. 19 is not given, and 20 to 22 are met
 # by callers of the library alone.
 REFUSALS = {*range(1, 19), *range(23, 35)}

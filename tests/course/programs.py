@@ -13,7 +13,7 @@ def need():
     """Ends the run with the command that makes a program where one is missing."""
     for program in (ANSWER, REPLY):
         if not program.exists():
-            raise SystemExit(f"course: {program.relative_to(ROOT)} is missing; this makes it: rt check reply answer")
+            raise SystemExit(f"course: {program.relative_to(ROOT)} is missing; this makes it: tools/build reply answer")
 
 
 def run(program, *arguments, given=b""):

@@ -56,7 +56,7 @@ fn link_station(root: &Path) {
     let archive = folder.join("libstation.a");
     println!("cargo:rerun-if-changed={}", archive.display());
     if !archive.exists() {
-        println!("cargo::error=there is no {}: rt staticlib station", archive.display());
+        println!("cargo::error=there is no {}: tools/build station", archive.display());
     }
     println!("cargo:rustc-link-search=native={}", folder.display());
     println!("cargo:rustc-link-lib=static=station");

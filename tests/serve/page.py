@@ -15,7 +15,7 @@ import tempfile
 import time
 
 BLOCK = re.compile(r"^```(\w*)\n(.*?)^```$", re.M | re.S)
-BEFORE = ["apt-get install -y gcc freetds-bin", "rt staticlib station",
+BEFORE = ["apt-get install -y gcc freetds-bin", "tools/build station",
           "apt-get install -y python3-pymssql python3-tds"]
 PAGE = "docs/CONNECTING.md"
 PORT = "14330"

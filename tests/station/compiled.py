@@ -19,10 +19,10 @@ EDITIONS = ("2015", "2018", "2021", "2024")
 def missing():
     """What to say where the library, a program or a compiler is not there, or nothing."""
     if not LIBRARY.exists():
-        return f"there is no {LIBRARY}: make it by `rt staticlib station`"
+        return f"there is no {LIBRARY}: make it by `tools/build station`"
     for name in ("reply", "answer"):
         if not (ROOT / "target/bin" / name).exists():
-            return f"there is no target/bin/{name}: make it by `rt check {name}`"
+            return f"there is no target/bin/{name}: make it by `tools/build {name}`"
     tools = [name for name in ("gcc", "g++", "nm", "rustc") if not shutil.which(name)]
     return f"not installed: {', '.join(tools)}" if tools else ""
 

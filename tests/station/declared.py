@@ -14,7 +14,7 @@ RUST_SLICES = {"*const u8": "bytes", "*mut u8": "buffer", "*mut u64": "slots"}
 
 C_FUNCTION = re.compile(r"^(\w+) (station_\w+)\(([^)]*)\);", re.M)
 C_CONSTANT = re.compile(r"^#define (STATION_\w+) (\S+(?: ?\S+)*?)(?: */\*.*)?$", re.M)
-RATTLE_EXPORT = re.compile(r'^#\[no_mangle\]\npub extern "C" fn (\w+)\(([^)]*)\) -> (\w+)', re.M)
+RATTLE_EXPORT = re.compile(r'^#\[unsafe\(no_mangle\)\]\npub extern "C" fn (\w+)\(([^)]*)\) -> (\w+)', re.M)
 RATTLE_CONSTANT = re.compile(r"^ *(?:pub )?const (\w+): \w+ = ([0-9A-Fa-fx_]+);", re.M)
 RUST_FUNCTION = re.compile(r"^    pub fn (\w+)\(([^)]*)\) -> (\w+);", re.M)
 RUST_CONSTANT = re.compile(r"^pub const (\w+): (\w+) = ([^;]+);", re.M)

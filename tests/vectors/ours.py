@@ -63,7 +63,7 @@ class Ours:
             return self.tokens(bytes_of(words[0]))
         export = getattr(self.exports, f"station_{name}", None) if self.exports else None
         if export is None or name not in self.calls:
-            return "not seen: needs gcc and `rt staticlib station`"
+            return "not seen: needs gcc and `tools/build station`"
         return self.told(name, *self.called(name, export, words))
 
     def tokens(self, packet):
