@@ -1,10 +1,14 @@
 // `reply`: a script on standard input; its reply packet, raw, or the line `refused N`. It takes no arguments.
 #![tactic(auto)]
 
-use itoa::Buffer;
+ghost use Rattle.std.specs.Prelude.{IfSome, OnOk};
+ghost use Rattle.std.specs.Io.KnownBytes.{Appends};
+ghost use Rattle.reply.specs.Answer.{line_of, reply_to, answer_to};
+
 use refusals::INPUT_TOO_LONG;
 use result::Built;
 use std::io;
+use std::io::{Read, Write};
 use wire::Part;
 
 // The most bytes of a script.
@@ -19,28 +23,34 @@ fn main(rt: HostRuntime) -> io::Result<()> {
     if console::is_given(&rt, 1) {
         return usage(&rt);
     }
-    answer_input(&rt)
+    answer_input(&mut rt.reader(), &mut io::writer(&rt))
 }
 
 fn usage(rt: &impl Eprint) -> io::Result<()> {
     rt.eprintln("usage: reply < SCRIPT")
 }
 
-fn answer_input(rt: &(impl Input + Print)) -> io::Result<()> {
+// Answers all that can be read.
+fn answer_input<R: Read, W: Write>(from: &mut R, out: &mut W) -> io::Result<()>
+    ensures { OnOk result (IfSome (R.remaining from.old)
+        (λ s. Appends (W.contents out.old) (W.contents out.new) (answer_to s))) }
+{
     let mut input = [0u8; ROOM];
-    let n = console::read_full(&mut rt.reader(), &mut input)?;
+    let n = console::read_full(from, &mut input)?;
     if n <= MOST {
-        reply(rt, wire::part_of(&input, Part { start: 0, len: n }))
+        reply(out, wire::part_of(&input, Part { start: 0, len: n }))
     } else {
-        refused(rt, INPUT_TOO_LONG)
+        refused(out, INPUT_TOO_LONG)
     }
 }
 
-fn reply(rt: &impl Print, script: &[u8]) -> io::Result<()> {
+fn reply<W: Write>(out: &mut W, script: &[u8]) -> io::Result<()>
+    ensures { OnOk result (Appends (W.contents out.old) (W.contents out.new) (reply_to script.now)) }
+{
     let mut packet = [0u8; PACKET];
     match result::build_query_results(script, &mut packet) {
         Built::Written(length) => write(
-            rt,
+            out,
             wire::part_of(
                 &packet,
                 Part {
@@ -49,20 +59,19 @@ fn reply(rt: &impl Print, script: &[u8]) -> io::Result<()> {
                 },
             ),
         ),
-        Built::Refused(number) => refused(rt, number),
+        Built::Refused(number) => refused(out, number),
     }
 }
 
 // The line `refused N`.
-fn refused(rt: &impl Print, number: u8) -> io::Result<()> {
-    let mut line = [0u8; 32];
-    let mut digits = Buffer::new();
-    let at = wire::put_slice(&mut line, 0, b"refused ");
-    let at = wire::put_slice(&mut line, at, digits.format(number).as_bytes());
-    let at = wire::put_u8(&mut line, at, b'\n');
-    write(rt, wire::part_of(&line, Part { start: 0, len: at }))
+fn refused<W: Write>(out: &mut W, number: u8) -> io::Result<()>
+    ensures { OnOk result (Appends (W.contents out.old) (W.contents out.new) (line_of number)) }
+{
+    writeln!(out, "refused {number}")
 }
 
-fn write(rt: &impl Print, bytes: &[u8]) -> io::Result<()> {
-    rt.write_all(bytes)
+fn write<W: Write>(out: &mut W, bytes: &[u8]) -> io::Result<()>
+    ensures { OnOk result (Appends (W.contents out.old) (W.contents out.new) bytes.now) }
+{
+    out.write_all(bytes)
 }
