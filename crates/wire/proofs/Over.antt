@@ -59,11 +59,11 @@ then {l} {m} {at = at} {to = to} {xs = xs} {ys = ys} w v =
     let all : overwrite m (at + length xs) ys ≡ overwrite l at (xs ++ ys) = rw w.0 (over-cat xs ys l at) in
     (v.0 ∙ same ∙ all, record { place = omega (arith, v.1.place, w.1.place, length-append xs ys) })
 
--- the bytes, said another way
 -- the two things that a writer's contract says are what it did
 pub wrote : {l m : List ℕ} {at to : ℕ} {xs : List ℕ} → m ≡ overwrite l at xs → PlaceAfter l at xs to → Wrote l at xs m to
 wrote e p = (e, p)
 
+-- the bytes, said another way
 pub wrote_as : {l m : List ℕ} {at to : ℕ} {xs ys : List ℕ} → Wrote l at xs m to → xs ≡ ys → Wrote l at ys m to
 wrote_as w e = rw (sym e) w
 
