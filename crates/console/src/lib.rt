@@ -6,7 +6,7 @@ ghost use Rattle.std.specs.Io.KnownBytes.{Consumes, IsAtEnd};
 
 use std::env::{Env, FillError};
 use std::io;
-use std::io::{ErrorKind, Read};
+use std::io::Read;
 
 // Whether the program was given an argument of this number; its own name is number 0.
 pub fn is_given(rt: &impl Env, number: usize) -> bool {
@@ -35,27 +35,11 @@ pub fn read_full<R: Read>(input: &mut R, buf: &mut [u8]) -> io::Result<usize>
 {
     let mut done = 0;
     while done < buf.len() {
-        let n = read_some(input, &mut buf[done..])?;
+        let n = input.read(&mut buf[done..])?;
         if n == 0 {
             return Ok(done);
         }
         done += n;
     }
     Ok(done)
-}
-
-// One read, made again where a signal interrupts it.
-fn read_some<R: Read>(input: &mut R, buf: &mut [u8]) -> io::Result<usize>
-    ensures bound { IfOk result (λ n. n ≤ length buf.new) }
-    ensures bytes { IfOk result (λ n. Consumes (R.remaining input.old) (R.remaining input.new) (take n buf.new)) }
-    ensures end { IfOk result (λ n. n ≡ 0 → 0 < length buf.new → IsAtEnd (R.remaining input.new)) }
-{
-    for _ in 0..u64::MAX {
-        match input.read(buf) {
-            Ok(n) => return Ok(n),
-            Err(e) if e.kind() == ErrorKind::Interrupted => {}
-            Err(e) => return Err(e),
-        }
-    }
-    Err(io::Error::from(ErrorKind::Interrupted))
 }
