@@ -4,6 +4,7 @@
 #![tactic(auto)]
 
 mod calls;
+mod gathering;
 mod labels;
 mod lines;
 mod logins;
@@ -14,12 +15,10 @@ mod runs;
 mod scripts;
 
 use calls::Call;
+use gathering::gathering_for;
 use std::env::Env;
 use std::io;
-use std::io::{BufWriter, Write};
-
-// The most bytes of lines that gather before they are written.
-const GATHERED: usize = 65536;
+use std::io::Write;
 
 fn main(rt: HostRuntime) -> io::Result<()> {
     let mut name = [0u8; 16];
@@ -39,22 +38,22 @@ fn named_last(rt: &impl Env, argument: usize, count: usize) -> Call {
     calls::named(rt, argument)
 }
 
-fn once<R: Input + Print + Eprint + Alloc>(rt: &R, call: Call) -> io::Result<()> {
+fn once<R: Input + Print + Eprint>(rt: &R, call: Call) -> io::Result<()> {
     if let Call::Unknown = call {
         return usage(rt);
     }
     let mut input = [0u8; runs::ROOM];
-    let mut out = BufWriter::with_capacity(rt.alloc(), GATHERED, io::writer(rt))?;
+    let mut out = gathering_for(io::writer(rt));
     runs::once(call, &mut rt.reader(), &mut input, &mut out)?;
     out.flush()
 }
 
-fn many<R: Input + Print + Eprint + Alloc>(rt: &R, call: Call) -> io::Result<()> {
+fn many<R: Input + Print + Eprint>(rt: &R, call: Call) -> io::Result<()> {
     if let Call::Unknown = call {
         return usage(rt);
     }
     let mut input = [0u8; runs::ROOM];
-    let mut out = BufWriter::with_capacity(rt.alloc(), GATHERED, io::writer(rt))?;
+    let mut out = gathering_for(io::writer(rt));
     runs::many(call, &mut rt.reader(), &mut input, &mut out)?;
     out.flush()
 }
