@@ -44,8 +44,10 @@ fn once<R: Input + Print + Eprint>(rt: &R, call: Call) -> io::Result<()> {
     }
     let mut input = [0u8; runs::ROOM];
     let mut out = gathering_for(io::writer(rt));
-    runs::once(call, &mut rt.reader(), &mut input, &mut out)?;
-    out.flush()
+    let done = runs::once(call, &mut rt.reader(), &mut input, &mut out);
+    // What was answered before a read failed is written too.
+    out.flush()?;
+    done
 }
 
 fn many<R: Input + Print + Eprint>(rt: &R, call: Call) -> io::Result<()> {
@@ -54,8 +56,10 @@ fn many<R: Input + Print + Eprint>(rt: &R, call: Call) -> io::Result<()> {
     }
     let mut input = [0u8; runs::ROOM];
     let mut out = gathering_for(io::writer(rt));
-    runs::many(call, &mut rt.reader(), &mut input, &mut out)?;
-    out.flush()
+    let done = runs::many(call, &mut rt.reader(), &mut input, &mut out);
+    // What was answered before a read failed is written too.
+    out.flush()?;
+    done
 }
 
 fn usage(rt: &impl Eprint) -> io::Result<()> {
