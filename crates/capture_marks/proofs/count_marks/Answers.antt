@@ -1,6 +1,4 @@
 -- `capture_marks::count_marks` meets its contract. The loop's invariant is `Counting`. Assumes nothing.
--- the record at the place, and where it lies
--- the next place, with one more or not
 use mathlib.Core.Path.{refl, sym, ◌∙◌}
 use mathlib.Core.Bool.{true, false}
 use native.Mathlib.Omega.{arith}

@@ -1,6 +1,4 @@
 -- `capture_marks::count_marks` meets its contract. The loop's invariant is `Counting`. Assumes nothing.
--- the record at the place, and where it lies
--- the next place, with one more or not
 use Prim.Native.Nat.{◌-◌}
 use lib.ListN.{length}
 use Rattle.capture_marks.proofs.Counting.{Counting}

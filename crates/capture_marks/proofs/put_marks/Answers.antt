@@ -1,5 +1,4 @@
 -- `capture_marks::put_marks` meets its contract. The loop's invariant is `Marking`. Assumes nothing.
--- the record at the place, and where it lies
 use mathlib.Core.Path.{sym, ◌∙◌}
 use native.Mathlib.Omega.{arith}
 use borrow.Enum.Refused.{opened}

@@ -1,5 +1,4 @@
 -- `capture_marks::put_marks` meets its contract. The loop's invariant is `Marking`. Assumes nothing.
--- the record at the place, and where it lies
 use Prim.Native.Nat.{◌-◌}
 use lib.ListN.{length}
 use Rattle.capture_marks.proofs.Marking.{Marking}

@@ -1,5 +1,4 @@
 -- `emission::emitted_size` meets its contract. Assumes nothing.
--- the first record, and where it lies
 use mathlib.Core.Path.{sym, ◌∙◌}
 use native.Mathlib.Omega.{arith}
 use borrow.Enum.Refused.{opened}

@@ -1,6 +1,5 @@
 -- `emission::error_in` meets its contract. The loop's invariant: the error of the records from `place` on is that from `at` on.
 -- Assumes nothing.
--- the record at the place, and where it lies
 use Prim.Native.Nat.{◌-◌}
 use Rattle.emission.proofs.Walks.{error_place, error_bytes}
 use mathlib.Core.Path.{◌≡◌}

@@ -1,5 +1,4 @@
 -- `emission::run_at` meets its contract. Assumes nothing.
--- the record at the place, and where it lies
 use lib.ListN.{length-take, drop}
 use borrow.Enum.Refused.{opened}
 use Rattle.emission.specs.Inner.{longer_run}

@@ -1,5 +1,4 @@
 -- `emission::run_at` meets its contract. Assumes nothing.
--- the record at the place, and where it lies
 use lib.ListN.{length}
 use Rattle.emission.proofs.Aheads.{Reached}
 use Prim.Native.Nat.{◌-◌}

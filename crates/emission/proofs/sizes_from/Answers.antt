@@ -1,5 +1,4 @@
 -- `emission::sizes_from` meets its contract. Assumes nothing.
--- the record at the place, and where it lies
 use borrow.Enum.Refused.{opened}
 use Rattle.script.proofs.Walk
 use Rattle.emission.proofs.Sizes.{cap-small}

@@ -1,5 +1,4 @@
 -- `emission::sizes_from` meets its contract. Assumes nothing.
--- the record at the place, and where it lies
 use Prim.Native.Nat.{◌+◌, ◌-◌, ◌≤◌}
 use Rattle.emission.specs.Emission.{bytes_in}
 use Rattle.emission.specs.Refusal.{fault_in}

@@ -1,5 +1,4 @@
 -- `request::parse_transaction_descriptor_header` meets its contract. Assumes nothing.
--- the length that the headers have, and where the block lies
 use native.Mathlib.Omega.{arith}
 use mathlib.Core.Path.{◌≡◌, refl, sym, ◌∙◌}
 use borrow.Enum.Refused.{opened}

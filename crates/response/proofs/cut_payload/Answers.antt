@@ -1,5 +1,4 @@
 -- `response::cut_payload` meets its contract. Assumes nothing.
--- a size that can be agreed
 use mathlib.Core.Path.{sym, ◌∙◌}
 use native.Mathlib.Omega.{arith}
 use Rattle.packet.proofs.Counts.{size-bounds}

@@ -1,5 +1,4 @@
 -- `result::build_query_results_in_packets` meets its contract. Assumes nothing.
--- a script of a length
 use mathlib.Core.Path.{sym, ◌∙◌}
 use native.Mathlib.Omega.{arith}
 use Rattle.packet.proofs.Counts.{size-bounds}

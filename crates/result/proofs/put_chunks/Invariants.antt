@@ -1,5 +1,4 @@
 -- `result::put_chunks` meets its contract. Assumes nothing.
--- the record at the place, and where it lies
 use Rattle.wire.proofs.Over.{Owes}
 use Rattle.result.proofs.Writes.{chunks_left}
 use Prim.Native.Nat.{◌-◌, ◌≤◌}

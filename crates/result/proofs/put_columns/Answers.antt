@@ -1,5 +1,4 @@
 -- `result::put_columns` meets its contract. Assumes nothing.
--- the record at the place, and where it lies
 use borrow.Enum.Refused.{opened}
 use Rattle.script.proofs.Stops.{stops}
 use Rattle.emission.proofs.Aheads.{ahead-other, ahead-cut, ahead-end}

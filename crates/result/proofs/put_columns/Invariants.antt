@@ -1,5 +1,4 @@
 -- `result::put_columns` meets its contract. Assumes nothing.
--- the record at the place, and where it lies
 use Rattle.wire.proofs.Over.{Owes}
 use Rattle.result.proofs.Writes.{columns_left}
 use Prim.Native.Nat.{◌-◌, ◌≤◌}

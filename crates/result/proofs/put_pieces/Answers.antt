@@ -1,5 +1,4 @@
 -- `result::put_pieces` meets its contract. Assumes nothing.
--- the first record, and where it lies
 use mathlib.Core.Path.{sym, ◌∙◌}
 use native.Mathlib.Omega.{arith}
 use borrow.Enum.Refused.{opened}

@@ -1,5 +1,4 @@
 -- `result::put_records` meets its contract. Assumes nothing.
--- the record at the place, and where it lies
 use borrow.Enum.Refused.{opened}
 use Rattle.script.proofs.Walk
 use Rattle.emission.specs.Walk.{rows_after}

@@ -1,5 +1,4 @@
 -- `result::put_records` meets its contract. Assumes nothing.
--- the record at the place, and where it lies
 use Prim.Native.Nat.{◌-◌, ◌≤◌}
 use lib.ListN.{length}
 use Rattle.wire.proofs.Over.{Owes}

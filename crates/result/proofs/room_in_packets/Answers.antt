@@ -1,5 +1,4 @@
 -- `result::room_in_packets` meets its contract. Assumes nothing.
--- a script of a length
 use mathlib.Core.Path.{sym, ◌∙◌}
 use mathlib.Core.List.{[]}
 use Rattle.packet.proofs.Counts.{size-bounds}

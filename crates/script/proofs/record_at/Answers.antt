@@ -1,5 +1,4 @@
 -- `script::record_at` meets its contract. Assumes nothing.
--- the length and the kind that stand at the place
 use mathlib.Core.Path.{sym, ◌∙◌}
 use native.Mathlib.Omega.{arith}
 use Prim.Native.Nat.{◌+◌}

@@ -1,5 +1,4 @@
 -- `script::script_fault` meets its contract. Assumes nothing.
--- the record at the place, and where it lies
 use Rattle.script.specs.declared.Stage.{Stage}
 use Rattle.script.specs.Records.{records}
 use Rattle.script.specs.Verdict.{verdict_from, verdict_of}

@@ -1,6 +1,5 @@
 -- `windows1252::put_bytes` meets its contract. The loop's invariant: the bytes of the units from a place on are still to be written.
 -- Assumes nothing.
--- the unit at the place, and the byte that stands for it
 use Prim.Native.Nat.{◌-◌, ◌≤◌}
 use mathlib.Core.Path.{◌≡◌}
 use mathlib.Core.Bool.{true}

@@ -30,17 +30,11 @@ loop-next-smaller c = let o = onto-of (rw (sym c.onward.ensures ∙ c.in-To-onwa
 pub loop-next-preserved : goal.loop-next-preserved
 loop-next-preserved c = copy-on c.loop-next.invariant c.copy_packet.ensures (onto-of (rw (sym c.onward.ensures ∙ c.in-To-onward.is) at (after _ _ c.loop-next.invariant.lies)))
 
--- gone same-length: same_length c = copy-long c.before.before.before.before.before.before.before.loop.invariant c.before.before.before.before.before.copy-packet.ensures
-
 pub returns-in-Over-onward : goal.returns-in-Over-onward
 returns-in-Over-onward c = copy-stop c.loop-next.invariant c.copy_packet.ensures (over-of (rw (sym c.onward.ensures ∙ c.in-Over-onward.is) at (after _ _ c.loop-next.invariant.lies)))
 
--- gone same-length-2: same-length-2 c = copy-long c.before.before.before.before.before.before.before.loop.invariant c.before.before.before.before.before.copy-packet.ensures
-
 pub returns-in-Broken-onward : goal.returns-in-Broken-onward
 returns-in-Broken-onward c = copy-stop c.loop-next.invariant c.copy_packet.ensures (broken-of (rw (sym c.onward.ensures ∙ c.in-Broken-onward.is) at (after _ _ c.loop-next.invariant.lies)))
-
--- gone same-length-3: same-length-3 c = copy-long c.before.before.before.before.before.before.before.loop.invariant c.before.before.before.before.before.copy-packet.ensures
 
 pub returns-in-Bad-onward : goal.returns-in-Bad-onward
 returns-in-Bad-onward c = copy-stop c.loop-next.invariant c.copy_packet.ensures (bad-of (rw (sym c.onward.ensures ∙ c.in-Bad-onward.is) at (after _ _ c.loop-next.invariant.lies)))

@@ -11,8 +11,6 @@ use Rattle.response.proofs.put.put_routes.Goals as goal
 pub loop-kind-init : goal.loop-kind-init
 loop-kind-init c = (search rules, putting-start _ _ _ _ c.put_nothing-place.ensures)
 
--- gone same-length: same_length c = c.before.before.loop.invariant.1.long
-
 pub returns-in-Cut : goal.returns-in-Cut
 returns-in-Cut c = putting-stop _ _ _ _ _ _ _ c.loop-kind.invariant.1 c.record_at.result c.record_at.ensures (opened c.in-Cut.in-Cut-own.keys1)
 
