@@ -1,4 +1,4 @@
-// The calls, a function each: it gets the input, and puts its lines behind what stands in out.
+// The calls, a function each: it gets the input, and puts its lines after what stands in out.
 use crate::{labels, lines, logins, procedures, replies, requests, scripts};
 use packet::{PacketHeader, PacketStatus, Parsed};
 use std::env::Env;

@@ -1,4 +1,4 @@
-// Text that goes to a writer: each function puts its part behind what stands there. The writer gathers it (main.rt).
+// Text that goes to a writer: each function puts its part after what stands there. The writer gathers it (gathering.rt).
 use itoa::Buffer;
 use std::io;
 use std::io::Write;

@@ -1,4 +1,4 @@
--- The packet lies in the lent bytes, so its end, behind the headers before it, is a place of them.
+-- The packet lies in the lent bytes, so its end, after the headers before it, is a place of them.
 use Rattle.std.proofs.Common.{arith}
 use Rattle.payload.proofs.Onto.{lying}
 use Rattle.answer.proofs.replies.payload_in.Goals as goal
