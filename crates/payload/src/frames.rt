@@ -27,8 +27,8 @@ pub struct Next {
     pub last: bool,
 }
 
-// Why no packet begins there: nothing follows an end bit; bytes follow one, or none follow and there is no end bit; or the header is
-// not that of the next packet.
+// Why no packet begins there: nothing follows an end bit; bytes follow one, or none follow and there is no end bit; or the
+// header is not that of the next packet.
 #[derive(Clone, Copy, PartialEq, Eq, Debug)]
 pub enum Stop {
     Over,

@@ -11,8 +11,8 @@ ghost use Rattle.payload.specs.Join.{fitted_in, joined_by, joined_of, joined_buf
 use crate::frames::{Frame, Stop, first, onward};
 use refusals::Refusal;
 
-// The payload of the packets that end as they should, at the buffer's front, and how many bytes it has; or what stops the packets, then
-// 20 where the buffer is too short. A refusal leaves the buffer as it was.
+// The payload of the packets that end as they should, at the buffer's front, and how many bytes it has; or what stops the
+// packets, then 20 where the buffer is too short. A refusal leaves the buffer as it was.
 pub fn join(lent: &[u8], buf: &mut [u8]) -> Result<usize, Refusal>
     ensures value { numbered result ≡ joined_of lent.now (length buf.old) }
     ensures buf_after { buf.new ≡ joined_buffer lent.now buf.old }
