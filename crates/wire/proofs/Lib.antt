@@ -7,3 +7,4 @@ pub mod Std
 pub mod Fields
 pub mod Parts
 pub mod Octets
+pub mod Puts

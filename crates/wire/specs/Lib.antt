@@ -5,3 +5,4 @@ pub mod Fields
 pub mod Part
 pub mod Even
 pub mod Octets
+pub mod Puts

@@ -2,11 +2,15 @@
 // A byte past the end reads as 0 and is not written, so no call asks anything of its caller.
 #![tactic(auto)]
 
+mod writer;
+
 ghost use Rattle.std.specs.Prelude.{◌≡◌, [], ◌∷◌, ◌-◌, ◌<◌, length, drop};
 ghost use Rattle.wire.specs.Le.{le_at, le};
 ghost use Rattle.wire.specs.Be.{first, be_at, be};
 ghost use Rattle.wire.specs.Over.{overwrite, PlaceAfter};
 ghost use Rattle.wire.specs.Part.{part_bytes};
+
+pub use writer::Writer;
 
 // A part of some bytes (document 01's term): where it starts in them, and how many there are.
 #[derive(Clone, Copy)]
