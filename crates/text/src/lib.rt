@@ -3,6 +3,7 @@
 #![tactic(auto)]
 
 ghost use Rattle.std.specs.Prelude.{◌≡◌, ◌∷◌, ◌+◌, ◌*◌, ◌≤◌, ◌<◌, length, drop};
+ghost use Rattle.refusals.specs.Refused.{refused_by};
 ghost use Rattle.text.specs.Units.{units_of, units, total};
 ghost use Rattle.text.specs.Surrogates.{surrogate_of, well_formed, has_pair, characters_in, characters, utf8_in, utf8_length};
 ghost use Rattle.text.specs.Space.{is_whitespace};
@@ -10,7 +11,7 @@ ghost use Rattle.text.specs.Trim.{leading, kept, trimmed};
 ghost use Rattle.text.specs.Arguments.{text_fault};
 ghost use Rattle.text.specs.Inner.{count_in};
 
-use refusals::{NONE, NOT_UTF16, ODD_TEXT};
+use refusals::Refusal;
 use wire::Part;
 
 // What a unit is: half of a surrogate pair, the high one or the low one, or a character of its own.
@@ -224,15 +225,15 @@ fn trim_end(s: &[u8]) -> usize
     0
 }
 
-// The refusal of a text argument, or none.
-pub fn text_fault(text: &[u8]) -> u8
-    ensures { result ≡ text_fault text.now }
+// Why a text argument is refused, if it is.
+pub fn text_fault(text: &[u8]) -> Result<(), Refusal>
+    ensures { refused_by result ≡ text_fault text.now }
 {
     if text.len() % 2 != 0 {
-        return ODD_TEXT;
+        return Err(Refusal::OddText);
     }
     if !is_well_formed(text) {
-        return NOT_UTF16;
+        return Err(Refusal::NotUtf16);
     }
-    NONE
+    Ok(())
 }
