@@ -36,7 +36,7 @@ pub(crate) fn refusal(size: usize, room: usize) -> Result<(), Refusal>
 pub(crate) fn capped(n: usize) -> usize
     ensures { result ≡ capped n }
 {
-    if MOST_BYTES < n { MOST_BYTES + 1 } else { n }
+    n.min(MOST_BYTES + 1)
 }
 
 // The refusal of two text arguments.

@@ -25,6 +25,7 @@ use packet::{PACKET_HEADER_SIZE, write_reply_header};
 use put::{LOGIN_ACK, put_error, put_feature_ext_ack, put_fedauth_info, put_routing_tokens};
 use refusals::Refusal;
 use text::text_fault;
+use token::Message;
 
 // The kinds of records in lists: routes, and features that are acknowledged.
 pub const PLAIN_ROUTE: u16 = 0x0011;
@@ -287,18 +288,17 @@ pub fn build_info_token(
     info_fault(message, server_name, proc_name)?;
     let texts = capped(message.len()) + capped(server_name.len()) + capped(proc_name.len());
     refusal(MESSAGE_SIZE + texts, buf.len())?;
-    Ok(token::put_message(
-        buf,
-        0,
-        token::INFO,
+    let info = Message {
+        kind: token::INFO,
         number,
         state,
-        severity,
-        message,
-        server_name,
-        proc_name,
-        line_number,
-    ))
+        class: severity,
+        text: message,
+        server: server_name,
+        procedure: proc_name,
+        line: line_number,
+    };
+    Ok(token::put_message(buf, 0, &info))
 }
 
 // An ERROR of state 1 and line 1 without names, and its DONE.
@@ -314,18 +314,17 @@ fn error_tokens(
 {
     text_fault(message)?;
     refusal(MESSAGE_SIZE + DONE_SIZE + capped(message.len()), buf.len())?;
-    let next = token::put_message(
-        buf,
-        0,
-        token::ERROR,
+    let error = Message {
+        kind: token::ERROR,
         number,
-        1,
-        severity,
-        message,
-        b"",
-        b"",
-        1,
-    );
+        state: 1,
+        class: severity,
+        text: message,
+        server: b"",
+        procedure: b"",
+        line: 1,
+    };
+    let next = token::put_message(buf, 0, &error);
     Ok(token::put_done(buf, next, status, 0))
 }
 
@@ -449,8 +448,8 @@ pub fn build_routing_login_response(
         host: redirect_host,
         port: redirect_port,
     };
-    let list = measure_routing(routes, &to)?;
-    let size = PACKET_HEADER_SIZE + login_size(login_ack, ack) + list + DONE_SIZE;
+    let routes_size = measure_routing(routes, &to)?;
+    let size = PACKET_HEADER_SIZE + login_size(login_ack, ack) + routes_size + DONE_SIZE;
     refusal(size, buf.len())?;
     let a = write_reply_header(buf, size as u16);
     Ok(put_routing_tokens(buf, a, routes, &to, login_ack, ack, ack_before_routing))

@@ -152,17 +152,10 @@ pub(crate) fn put_records<L: Listed>(buf: &mut [u8], at: usize, list: &[u8], of:
 {
     let mut place = put_nothing(buf, at);
     let mut from: usize = 0;
-    loop {
-        match script::record_at(list, from) {
-            Found::Cut | Found::End => {
-                return place;
-            }
-            Found::Record { kind, start, len } => {
-                let next = start + len;
-                let payload = &list[start..next];
-                place = of.put(buf, place, kind, payload);
-                from = next;
-            }
-        }
+    while let Found::Record { kind, start, len } = script::record_at(list, from) {
+        let next = start + len;
+        place = of.put(buf, place, kind, &list[start..next]);
+        from = next;
     }
+    place
 }

@@ -35,7 +35,7 @@ const SPN: u8 = 0x02;
 pub(crate) fn put_nothing(buf: &[u8], at: usize) -> usize
     ensures { result ≡ min at (length buf.now) }
 {
-    if buf.len() < at { buf.len() } else { at }
+    at.min(buf.len())
 }
 
 // A text after a count.

@@ -8,21 +8,21 @@ use Rattle.response.specs.Replies.{routing_login_reply}
 use Rattle.wire.proofs.Over.{wrote}
 use Rattle.response.proofs.build_routing_login_response.Goals as goal
 
-pub returns-in_err-list : goal.returns-in_err-list
+pub returns-in_err-routes_size : goal.returns-in_err-routes_size
 unfolding routing_login_reply
-returns-in_err-list c = let a = c.args in
-    let w = faulted _ a.buf.now _ _ c.from_residual.ensures.1 (fault-of _ _ _ c.in_err-list.ensures) in record { value = w.0; buf_after = w.1 }
+returns-in_err-routes_size c = let a = c.args in
+    let w = faulted _ a.buf.now _ _ c.from_residual.ensures.1 (fault-of _ _ _ c.in_err-routes_size.ensures) in record { value = w.0; buf_after = w.1 }
 
 pub overflow_add-size-2 : goal.overflow_add-size-2
-overflow_add-size-2 c = omega (arith, (size_of _ _ c.in_ok-list.ensures).1)
+overflow_add-size-2 c = omega (arith, (size_of _ _ c.in_ok-routes_size.ensures).1)
 
 pub overflow_add-size-3 : goal.overflow_add-size-3
-overflow_add-size-3 c = omega (arith, (size_of _ _ c.in_ok-list.ensures).1)
+overflow_add-size-3 c = omega (arith, (size_of _ _ c.in_ok-routes_size.ensures).1)
 
 pub returns-in_err-refusal : goal.returns-in_err-refusal
 unfolding routing_login_reply
 returns-in_err-refusal c = let a = c.args in
-    let list = size_of _ _ c.in_ok-list.ensures in
+    let list = size_of _ _ c.in_ok-routes_size.ensures in
     let w = unsent _ _ a.buf.now list.0 (routed-same a.redirect_host.now a.redirect_port (records a.routes.now) a.login_ack a.ack a.ack_before_routing _ c.login_size.ensures.0 list.1) _ _ c.from_residual-in_err-refusal.ensures.1 c.in_err-refusal.ensures in record { value = w.0; buf_after = w.1 }
 
 pub overflow_cast-size : goal.overflow_cast-size
@@ -31,5 +31,5 @@ overflow_cast-size c = omega (arith, within _ _ c.in_ok-refusal.ensures)
 pub returns : goal.returns
 unfolding routing_login_reply
 returns c = let a = c.args in
-    let list = size_of _ _ c.in_ok-list.ensures in
+    let list = size_of _ _ c.in_ok-routes_size.ensures in
     let w = sent _ _ a.buf.now list.0 (routed-same a.redirect_host.now a.redirect_port (records a.routes.now) a.login_ack a.ack a.ack_before_routing _ c.login_size.ensures.0 list.1) c.in_ok-refusal.ensures (wrote c.write_reply_header-a.ensures.buf_after c.write_reply_header-a.ensures.place_after) c.put_routing_tokens.ensures in record { value = w.0; buf_after = w.1 }
