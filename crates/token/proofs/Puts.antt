@@ -4,9 +4,10 @@ use mathlib.Core.List.{List, [], ◌∷◌, ◌++◌}
 use Prim.Native.Nat.{ℕ, ◌%◌, ◌^◌}
 use lib.ListN.{length}
 use Rattle.wire.specs.Le.{le}
-use Rattle.wire.specs.Over.{Wrote}
+use Rattle.wire.specs.Puts.{Puts}
+use Rattle.wire.specs.declared.writer.Writer.{Writer}
 use Rattle.wire.specs.Fields.{Field, word, raw, flat}
-use Rattle.wire.proofs.Over.{then, ended, wrote_as}
+use Rattle.wire.proofs.Puts.{then, ended, put_as}
 use Rattle.wire.proofs.Le.{le-mod}
 use Rattle.wire.proofs.Fields.{flat-cat}
 use Rattle.token.specs.Tokens.{Token, metadata, column, row, cell, done, message, EncodedCell, integer, no_integer, bounded, long, no_long, put_chunks, put, token_bytes, joined, message_head, type_fields}
@@ -14,14 +15,13 @@ use Rattle.token.specs.Types.{length_width}
 use borrow.Author.Tests.{ne_eqb}
 
 -- the low bytes of a number are all that is written
-pub wrote-low : (k v : ℕ) {l m : List ℕ} {at to : ℕ} → Wrote l at (le k (v % 256 ^ k)) m to → Wrote l at (le k v) m to
-wrote-low k v w = wrote_as w (le-mod k v)
+pub put-low : (k v : ℕ) {l m : Writer} → Puts l (le k (v % 256 ^ k)) m → Puts l (le k v) m
+put-low k v w = put_as w (le-mod k v)
 
 -- a count by its low bytes, and the bytes after it
-pub wrote-counted : (k v : ℕ) {l m n : List ℕ} {at to end : ℕ} {xs : List ℕ} → Wrote l at (le k (v % 256 ^ k)) m to → Wrote m to xs n end
-    → Wrote l at (flat (word k v ∷ raw xs ∷ [])) n end
+pub put-counted : (k v : ℕ) {l m n : Writer} {xs : List ℕ} → Puts l (le k (v % 256 ^ k)) m → Puts m xs n → Puts l (flat (word k v ∷ raw xs ∷ [])) n
 unfolding flat
-wrote-counted k v w u = then (wrote-low k v w) (then u (ended u))
+put-counted k v w u = then (put-low k v w) (then u (ended u))
 
 -- fields before others
 pub chunks-before : (cs : List (List ℕ)) (fs : List Field) → put_chunks cs fs ≡ put_chunks cs [] ++ fs
@@ -51,8 +51,8 @@ unfolding flat
 head-size k size n state class = rw (le-mod 2 size)
 
 -- a type's length in its number of bytes
-pub type-fields : (code limit w : ℕ) {l m : List ℕ} {at to : ℕ} → length_width code ≡ w → Wrote l at (le 4 0 ++ (le 2 0 ++ (le 1 code ++ (le w limit ++ [])))) m to
-    → Wrote l at (flat (type_fields 0 0 code limit [])) m to
+pub type-fields : (code limit w : ℕ) {l m : Writer} → length_width code ≡ w → Puts l (le 4 0 ++ (le 2 0 ++ (le 1 code ++ (le w limit ++ [])))) m
+    → Puts l (flat (type_fields 0 0 code limit [])) m
 unfolding flat
 type-fields code limit w e u = rw e u
 

@@ -1,17 +1,17 @@
-// The tokens of a reply (MS-TDS 2.2.7): their codes, and the writer of each. A writer puts its token's bytes at a place of
-// a lent buffer and answers the place after them; what lies past the buffer's end is not written.
+// The tokens of a reply (MS-TDS 2.2.7): their codes, and the writer of each.
 #![tactic(auto)]
 
 ghost use Rattle.std.specs.Prelude.{◌≡◌, [], ◌∷◌, ◌%◌, length};
 ghost use Rattle.refusals.specs.Refused.{refused_by};
 ghost use Rattle.wire.specs.Fields.{flat, word, raw};
-ghost use Rattle.wire.specs.Over.{overwrite, PlaceAfter};
+ghost use Rattle.wire.specs.Puts.{Puts};
 ghost use Rattle.token.specs.Types.{data_type_of, type_code, type_length, length_width, collation_size};
 ghost use Rattle.token.specs.Values.{column_value_of};
 ghost use Rattle.token.specs.Names.{name_fault};
 ghost use Rattle.token.specs.Tokens.{metadata, column, row, cell, done, message, integer, no_integer, bounded, no_long, token_bytes, us_varchar, b_varchar, message_head, message_length, type_fields};
 
 use refusals::Refusal;
+use wire::Writer;
 
 // The codes of tokens, as MS-TDS numbers them.
 pub const COLMETADATA: u8 = 0x81;
@@ -159,48 +159,43 @@ pub fn name_fault(name: &[u8]) -> Result<(), Refusal>
 }
 
 // COLMETADATA with its count of columns, which follow one by one.
-pub fn put_colmetadata(buf: &mut [u8], at: usize, count: usize) -> usize
-    ensures buf_after { buf.new ≡ overwrite buf.old at (token_bytes (metadata count)) }
-    ensures place_after { PlaceAfter buf.old at (token_bytes (metadata count)) result }
+pub fn put_colmetadata(w: &mut Writer, count: usize)
+    ensures { Puts w.old (token_bytes (metadata count)) w.new }
 {
-    let next = wire::put_u8(buf, at, COLMETADATA);
-    wire::put_u16_le(buf, next, (count % 65536) as u16)
+    w.put_u8(COLMETADATA);
+    w.put_u16_le((count % 65536) as u16);
 }
 
 // A row, whose cells follow one by one.
-pub fn put_row(buf: &mut [u8], at: usize) -> usize
-    ensures buf_after { buf.new ≡ overwrite buf.old at (token_bytes row) }
-    ensures place_after { PlaceAfter buf.old at (token_bytes row) result }
+pub fn put_row(w: &mut Writer)
+    ensures { Puts w.old (token_bytes row) w.new }
 {
-    wire::put_u8(buf, at, ROW)
+    w.put_u8(ROW);
 }
 
 // DONE with its status and count of rows.
-pub fn put_done(buf: &mut [u8], at: usize, status: u16, rows: u64) -> usize
-    ensures buf_after { buf.new ≡ overwrite buf.old at (token_bytes (done status 0xC1 rows)) }
-    ensures place_after { PlaceAfter buf.old at (token_bytes (done status 0xC1 rows)) result }
+pub fn put_done(w: &mut Writer, status: u16, rows: u64)
+    ensures { Puts w.old (token_bytes (done status 0xC1 rows)) w.new }
 {
-    let a = wire::put_u8(buf, at, DONE);
-    let b = wire::put_u16_le(buf, a, status);
-    let c = wire::put_u16_le(buf, b, SELECT);
-    wire::put_u64_le(buf, c, rows)
+    w.put_u8(DONE);
+    w.put_u16_le(status);
+    w.put_u16_le(SELECT);
+    w.put_u64_le(rows);
 }
 
 // A text after its count of units, in two bytes and in one.
-fn put_us_varchar(buf: &mut [u8], at: usize, text: &[u8]) -> usize
-    ensures buf_after { buf.new ≡ overwrite buf.old at (flat (us_varchar text.now [])) }
-    ensures place_after { PlaceAfter buf.old at (flat (us_varchar text.now [])) result }
+fn put_us_varchar(w: &mut Writer, text: &[u8])
+    ensures { Puts w.old (flat (us_varchar text.now [])) w.new }
 {
-    let next = wire::put_u16_le(buf, at, (text::units(text) % 65536) as u16);
-    wire::put_slice(buf, next, text)
+    w.put_u16_le((text::units(text) % 65536) as u16);
+    w.put_slice(text);
 }
 
-fn put_b_varchar(buf: &mut [u8], at: usize, text: &[u8]) -> usize
-    ensures buf_after { buf.new ≡ overwrite buf.old at (flat (b_varchar text.now [])) }
-    ensures place_after { PlaceAfter buf.old at (flat (b_varchar text.now [])) result }
+fn put_b_varchar(w: &mut Writer, text: &[u8])
+    ensures { Puts w.old (flat (b_varchar text.now [])) w.new }
 {
-    let next = wire::put_u8(buf, at, (text::units(text) % 256) as u8);
-    wire::put_slice(buf, next, text)
+    w.put_u8((text::units(text) % 256) as u8);
+    w.put_slice(text);
 }
 
 // An ERROR or INFO by its kind, and what it says.
@@ -217,15 +212,14 @@ pub struct Message<'a> {
 }
 
 // An ERROR or INFO of a size up to its texts.
-fn put_message_head(buf: &mut [u8], at: usize, size: u16, m: &Message) -> usize
-    ensures buf_after { buf.new ≡ overwrite buf.old at (flat (message_head m.now.kind size m.now.number m.now.state m.now.class [])) }
-    ensures place_after { PlaceAfter buf.old at (flat (message_head m.now.kind size m.now.number m.now.state m.now.class [])) result }
+fn put_message_head(w: &mut Writer, size: u16, m: &Message)
+    ensures { Puts w.old (flat (message_head m.now.kind size m.now.number m.now.state m.now.class [])) w.new }
 {
-    let a = wire::put_u8(buf, at, m.kind);
-    let b = wire::put_u16_le(buf, a, size);
-    let c = wire::put_u32_le(buf, b, m.number);
-    let d = wire::put_u8(buf, c, m.state);
-    wire::put_u8(buf, d, m.class)
+    w.put_u8(m.kind);
+    w.put_u16_le(size);
+    w.put_u32_le(m.number);
+    w.put_u8(m.state);
+    w.put_u8(m.class);
 }
 
 // The length of an ERROR or INFO, modulo 65,536.
@@ -237,106 +231,96 @@ fn message_length(text: &[u8], server: &[u8], procedure: &[u8]) -> u16
 }
 
 // A message, with the length of what follows its length.
-pub fn put_message(buf: &mut [u8], at: usize, m: &Message) -> usize
-    ensures buf_after { buf.new ≡ overwrite buf.old at (token_bytes (message m.now.kind m.now.number m.now.state m.now.class m.now.text.now m.now.server.now m.now.procedure.now m.now.line)) }
-    ensures place_after { PlaceAfter buf.old at (token_bytes (message m.now.kind m.now.number m.now.state m.now.class m.now.text.now m.now.server.now m.now.procedure.now m.now.line)) result }
+pub fn put_message(w: &mut Writer, m: &Message)
+    ensures { Puts w.old (token_bytes (message m.now.kind m.now.number m.now.state m.now.class m.now.text.now m.now.server.now m.now.procedure.now m.now.line)) w.new }
 {
     let size = message_length(m.text, m.server, m.procedure);
-    let a = put_message_head(buf, at, size, m);
-    let b = put_us_varchar(buf, a, m.text);
-    let c = put_b_varchar(buf, b, m.server);
-    let d = put_b_varchar(buf, c, m.procedure);
-    wire::put_u32_le(buf, d, m.line)
+    put_message_head(w, size, m);
+    put_us_varchar(w, m.text);
+    put_b_varchar(w, m.server);
+    put_b_varchar(w, m.procedure);
+    w.put_u32_le(m.line);
 }
 
 // A column's user type, flags, code and length.
-fn put_type_info(buf: &mut [u8], at: usize, t: SqlDataType) -> usize
-    ensures buf_after { buf.new ≡ overwrite buf.old at (flat (type_fields 0 0 (type_code t) (type_length t) [])) }
-    ensures place_after { PlaceAfter buf.old at (flat (type_fields 0 0 (type_code t) (type_length t) [])) result }
+fn put_type_info(w: &mut Writer, t: SqlDataType)
+    ensures { Puts w.old (flat (type_fields 0 0 (type_code t) (type_length t) [])) w.new }
 {
     let code = tds_type_code(t);
     let limit = max_length(t);
-    let a = wire::put_u32_le(buf, at, 0);
-    let b = wire::put_u16_le(buf, a, 0);
-    let c = wire::put_u8(buf, b, code);
+    w.put_u32_le(0);
+    w.put_u16_le(0);
+    w.put_u8(code);
     if code == 0x26 {
-        return wire::put_u8(buf, c, (limit % 256) as u8);
+        w.put_u8((limit % 256) as u8);
+        return;
     }
-    wire::put_u16_le(buf, c, limit)
+    w.put_u16_le(limit);
 }
 
 // A column: its type, its collation where the type has one, and its name after its count of units.
-pub fn put_column(buf: &mut [u8], at: usize, t: SqlDataType, collation: &[u8], name: &[u8]) -> usize
-    ensures buf_after { buf.new ≡ overwrite buf.old at (token_bytes (column 0 0 (type_code t) (type_length t) collation.now name.now)) }
-    ensures place_after { PlaceAfter buf.old at (token_bytes (column 0 0 (type_code t) (type_length t) collation.now name.now)) result }
+pub fn put_column(w: &mut Writer, t: SqlDataType, collation: &[u8], name: &[u8])
+    ensures { Puts w.old (token_bytes (column 0 0 (type_code t) (type_length t) collation.now name.now)) w.new }
 {
-    let a = put_type_info(buf, at, t);
-    let b = wire::put_slice(buf, a, collation);
-    put_b_varchar(buf, b, name)
+    put_type_info(w, t);
+    w.put_slice(collation);
+    put_b_varchar(w, name);
 }
 
 // A cell of an integer, by the number of its bytes. One function for each: a generic one would need a trait for the writers of wire.
-pub fn put_tinyint(buf: &mut [u8], at: usize, v: u8) -> usize
-    ensures buf_after { buf.new ≡ overwrite buf.old at (token_bytes (cell (integer 1 v))) }
-    ensures place_after { PlaceAfter buf.old at (token_bytes (cell (integer 1 v))) result }
+pub fn put_tinyint(w: &mut Writer, v: u8)
+    ensures { Puts w.old (token_bytes (cell (integer 1 v))) w.new }
 {
-    let next = wire::put_u8(buf, at, 1);
-    wire::put_u8(buf, next, v)
+    w.put_u8(1);
+    w.put_u8(v);
 }
 
-pub fn put_smallint(buf: &mut [u8], at: usize, v: u16) -> usize
-    ensures buf_after { buf.new ≡ overwrite buf.old at (token_bytes (cell (integer 2 v))) }
-    ensures place_after { PlaceAfter buf.old at (token_bytes (cell (integer 2 v))) result }
+pub fn put_smallint(w: &mut Writer, v: u16)
+    ensures { Puts w.old (token_bytes (cell (integer 2 v))) w.new }
 {
-    let next = wire::put_u8(buf, at, 2);
-    wire::put_u16_le(buf, next, v)
+    w.put_u8(2);
+    w.put_u16_le(v);
 }
 
-pub fn put_int(buf: &mut [u8], at: usize, v: u32) -> usize
-    ensures buf_after { buf.new ≡ overwrite buf.old at (token_bytes (cell (integer 4 v))) }
-    ensures place_after { PlaceAfter buf.old at (token_bytes (cell (integer 4 v))) result }
+pub fn put_int(w: &mut Writer, v: u32)
+    ensures { Puts w.old (token_bytes (cell (integer 4 v))) w.new }
 {
-    let next = wire::put_u8(buf, at, 4);
-    wire::put_u32_le(buf, next, v)
+    w.put_u8(4);
+    w.put_u32_le(v);
 }
 
-pub fn put_bigint(buf: &mut [u8], at: usize, v: u64) -> usize
-    ensures buf_after { buf.new ≡ overwrite buf.old at (token_bytes (cell (integer 8 v))) }
-    ensures place_after { PlaceAfter buf.old at (token_bytes (cell (integer 8 v))) result }
+pub fn put_bigint(w: &mut Writer, v: u64)
+    ensures { Puts w.old (token_bytes (cell (integer 8 v))) w.new }
 {
-    let next = wire::put_u8(buf, at, 8);
-    wire::put_u64_le(buf, next, v)
+    w.put_u8(8);
+    w.put_u64_le(v);
 }
 
 // A null of an integer, and of a Max value.
-pub fn put_null(buf: &mut [u8], at: usize) -> usize
-    ensures buf_after { buf.new ≡ overwrite buf.old at (token_bytes (cell no_integer)) }
-    ensures place_after { PlaceAfter buf.old at (token_bytes (cell no_integer)) result }
+pub fn put_null(w: &mut Writer)
+    ensures { Puts w.old (token_bytes (cell no_integer)) w.new }
 {
-    wire::put_u8(buf, at, 0)
+    w.put_u8(0);
 }
 
-pub fn put_plp_null(buf: &mut [u8], at: usize) -> usize
-    ensures buf_after { buf.new ≡ overwrite buf.old at (token_bytes (cell no_long)) }
-    ensures place_after { PlaceAfter buf.old at (token_bytes (cell no_long)) result }
+pub fn put_plp_null(w: &mut Writer)
+    ensures { Puts w.old (token_bytes (cell no_long)) w.new }
 {
-    wire::put_u64_le(buf, at, 0xFFFF_FFFF_FFFF_FFFF)
+    w.put_u64_le(0xFFFF_FFFF_FFFF_FFFF);
 }
 
 // A bounded text.
-pub fn put_nvarchar(buf: &mut [u8], at: usize, text: &[u8]) -> usize
-    ensures buf_after { buf.new ≡ overwrite buf.old at (token_bytes (cell (bounded text.now))) }
-    ensures place_after { PlaceAfter buf.old at (token_bytes (cell (bounded text.now))) result }
+pub fn put_nvarchar(w: &mut Writer, text: &[u8])
+    ensures { Puts w.old (token_bytes (cell (bounded text.now))) w.new }
 {
-    let next = wire::put_u16_le(buf, at, (text.len() % 65536) as u16);
-    wire::put_slice(buf, next, text)
+    w.put_u16_le((text.len() % 65536) as u16);
+    w.put_slice(text);
 }
 
 // A chunk of a Max value, after its length.
-pub fn put_chunk(buf: &mut [u8], at: usize, chunk: &[u8]) -> usize
-    ensures buf_after { buf.new ≡ overwrite buf.old at (flat (word 4 (length chunk.now) ∷ raw chunk.now ∷ [])) }
-    ensures place_after { PlaceAfter buf.old at (flat (word 4 (length chunk.now) ∷ raw chunk.now ∷ [])) result }
+pub fn put_chunk(w: &mut Writer, chunk: &[u8])
+    ensures { Puts w.old (flat (word 4 (length chunk.now) ∷ raw chunk.now ∷ [])) w.new }
 {
-    let next = wire::put_u32_le(buf, at, (chunk.len() % 0x1_0000_0000) as u32);
-    wire::put_slice(buf, next, chunk)
+    w.put_u32_le((chunk.len() % 0x1_0000_0000) as u32);
+    w.put_slice(chunk);
 }

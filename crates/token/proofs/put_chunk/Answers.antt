@@ -1,7 +1,6 @@
 -- `token::put_chunk` meets its contract. Assumes nothing.
-use Rattle.token.proofs.Puts.{wrote-counted}
-use Rattle.wire.proofs.Over.{wrote}
+use Rattle.token.proofs.Puts.{put-counted}
 use Rattle.token.proofs.put_chunk.Goals as goal
 
 pub returns : goal.returns
-returns c = let w = wrote-counted 4 _ (wrote c.put_u32_le-next.ensures.buf_after c.put_u32_le-next.ensures.place_after) (wrote c.put_slice.ensures.buf_after c.put_slice.ensures.place_after) in record { buf_after = w.0; place_after = w.1 }
+returns c = put-counted 4 _ c.put_u32_le.ensures c.put_slice.ensures

@@ -1,11 +1,10 @@
 -- `token::put_colmetadata` meets its contract. Assumes nothing.
-use Rattle.wire.proofs.Over.{wrote, then, ended}
+use Rattle.wire.proofs.Puts.{then, ended}
+use Rattle.token.proofs.Puts.{put-low}
 use Rattle.wire.specs.Fields.{flat}
 use Rattle.token.specs.Tokens.{token_bytes}
-use Rattle.token.proofs.Puts.{wrote-low}
 use Rattle.token.proofs.put_colmetadata.Goals as goal
 
 pub returns : goal.returns
 unfolding token_bytes flat
-returns c = let a = c.args in
-    let w = then (wrote c.put_u8-next.ensures.buf_after c.put_u8-next.ensures.place_after) (then (wrote-low 2 a.count (wrote c.put_u16_le.ensures.buf_after c.put_u16_le.ensures.place_after)) (ended (wrote-low 2 a.count (wrote c.put_u16_le.ensures.buf_after c.put_u16_le.ensures.place_after)))) in record { buf_after = w.0; place_after = w.1 }
+returns c = then c.put_u8.ensures (then (put-low 2 c.args.count c.put_u16_le.ensures) (ended (put-low 2 c.args.count c.put_u16_le.ensures)))

@@ -1,9 +1,9 @@
 -- `token::put_done` meets its contract. Assumes nothing.
-use Rattle.wire.proofs.Over.{wrote, then, ended}
+use Rattle.wire.proofs.Puts.{then, ended}
 use Rattle.wire.specs.Fields.{flat}
 use Rattle.token.specs.Tokens.{token_bytes}
 use Rattle.token.proofs.put_done.Goals as goal
 
 pub returns : goal.returns
 unfolding token_bytes flat
-returns c = let w = then (wrote c.put_u8-a.ensures.buf_after c.put_u8-a.ensures.place_after) (then (wrote c.put_u16_le-b.ensures.buf_after c.put_u16_le-b.ensures.place_after) (then (wrote c.put_u16_le-c.ensures.buf_after c.put_u16_le-c.ensures.place_after) (then (wrote c.put_u64_le.ensures.buf_after c.put_u64_le.ensures.place_after) (ended (wrote c.put_u64_le.ensures.buf_after c.put_u64_le.ensures.place_after))))) in record { buf_after = w.0; place_after = w.1 }
+returns c = then c.put_u8.ensures (then c.put_u16_le.ensures (then c.put_u16_le-2.ensures (then c.put_u64_le.ensures (ended c.put_u64_le.ensures))))

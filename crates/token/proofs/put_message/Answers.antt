@@ -1,9 +1,8 @@
 -- `token::put_message` meets its contract. Assumes nothing.
 use mathlib.Core.Path.{◌≡◌}
-use Rattle.wire.specs.Fields.{flat, word}
-use Rattle.wire.proofs.Over.{wrote, then, ended, wrote_as}
 use mathlib.Core.List.{[], ◌∷◌}
-use Rattle.wire.proofs.Fields.{then-fields}
+use Rattle.wire.specs.Fields.{flat, word}
+use Rattle.wire.proofs.Puts.{then, ended, put_as, then-fields}
 use Rattle.token.specs.Tokens.{token_bytes, message_length, message_head, us_varchar, b_varchar}
 use Rattle.token.proofs.Puts.{head-size}
 use Rattle.token.proofs.put_message.Goals as goal
@@ -18,9 +17,7 @@ returns c = let a = c.args.m.now in
     let head = message_head a.kind size a.number a.state a.class [] in
     let line = word 4 a.line ∷ [] in
     let size_is : flat (message_head a.kind c.message_length-size.result a.number a.state a.class []) ≡ flat head = rw c.message_length-size.ensures (head-size a.kind size a.number a.state a.class) in
-    let w1 = wrote_as (wrote c.put_message_head-a.ensures.buf_after c.put_message_head-a.ensures.place_after) size_is in
-    let w5 = (wrote c.put_u32_le.ensures.buf_after c.put_u32_le.ensures.place_after) in
-    let w = then-fields head (us_varchar t (b_varchar v (b_varchar p line))) w1
-    (then-fields (us_varchar t []) (b_varchar v (b_varchar p line)) (wrote c.put_us_varchar-b.ensures.buf_after c.put_us_varchar-b.ensures.place_after)
-    (then-fields (b_varchar v []) (b_varchar p line) (wrote c.put_b_varchar-c.ensures.buf_after c.put_b_varchar-c.ensures.place_after)
-    (then-fields (b_varchar p []) line (wrote c.put_b_varchar-d.ensures.buf_after c.put_b_varchar-d.ensures.place_after) (then w5 (ended w5))))) in record { buf_after = w.0; place_after = w.1 }
+    then-fields head (us_varchar t (b_varchar v (b_varchar p line))) (put_as c.put_message_head.ensures size_is)
+    (then-fields (us_varchar t []) (b_varchar v (b_varchar p line)) c.put_us_varchar.ensures
+    (then-fields (b_varchar v []) (b_varchar p line) c.put_b_varchar.ensures
+    (then-fields (b_varchar p []) line c.put_b_varchar-2.ensures (then c.put_u32_le.ensures (ended c.put_u32_le.ensures)))))

@@ -1,9 +1,8 @@
 -- `token::put_nvarchar` meets its contract. Assumes nothing.
+use Rattle.token.proofs.Puts.{put-counted}
 use Rattle.token.specs.Tokens.{token_bytes}
-use Rattle.token.proofs.Puts.{wrote-counted}
-use Rattle.wire.proofs.Over.{wrote}
 use Rattle.token.proofs.put_nvarchar.Goals as goal
 
 pub returns : goal.returns
 unfolding token_bytes
-returns c = let w = wrote-counted 2 _ (wrote c.put_u16_le-next.ensures.buf_after c.put_u16_le-next.ensures.place_after) (wrote c.put_slice.ensures.buf_after c.put_slice.ensures.place_after) in record { buf_after = w.0; place_after = w.1 }
+returns c = put-counted 2 _ c.put_u16_le.ensures c.put_slice.ensures
