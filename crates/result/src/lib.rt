@@ -2,8 +2,9 @@
 // in packets of an agreed size (document 02, 2026-02), and the room estimate. The writing pass is the third over the records: it comes after every refusal is ruled out by emission's two.
 #![tactic(auto)]
 
-ghost use Rattle.std.specs.Prelude.{◌≡◌, [], ◌+◌, ◌^◌, ◌≤◌, ◌<◌, length, drop};
+ghost use Rattle.std.specs.Prelude.{◌≡◌, Ok, [], ◌+◌, ◌^◌, ◌≤◌, ◌<◌, length, drop};
 ghost use Rattle.std.proofs.Math.Option.{some};
+ghost use Rattle.refusals.specs.Refused.{numbered};
 ghost use Rattle.wire.specs.Fields.{flat};
 ghost use Rattle.wire.specs.Over.{overwrite, PlaceAfter};
 ghost use Rattle.packet.specs.Cut.{packets_of};
@@ -16,17 +17,10 @@ ghost use Rattle.emission.specs.Runs.{error_found};
 ghost use Rattle.result.specs.Built.{room_of, room_at, fitted, leaves, built_of, buffer_of, built_in_packets, buffer_in_packets};
 ghost use Rattle.result.specs.Inner.{Put};
 
-use emission::{ErrorAt, Measure};
-use refusals::{BUFFER_TOO_SHORT, PACKET_SIZE};
+use refusals::Refusal;
 use script::Found;
 use token::{ColumnValue, KnownColumnValue, KnownDataType};
-
-// What a builder answers: the bytes written, or the refusal's number. Of the room for a reply, the bytes that would be written.
-#[derive(Clone, Copy)]
-pub enum Built {
-    Written(usize),
-    Refused(u8),
-}
+use wire::Part;
 
 // The status of the DONE that ends a set: its row count is valid (0010), and where a set follows there is more (0001).
 const MORE: u16 = 0x0011;
@@ -317,14 +311,14 @@ fn put_records(buf: &mut [u8], at: usize, s: &[u8], from: usize) -> usize
 }
 
 // The error of the first set, where it has one, and its DONE.
-fn put_lead(buf: &mut [u8], at: usize, s: &[u8], error: ErrorAt, status: u16) -> usize
+fn put_lead(buf: &mut [u8], at: usize, s: &[u8], error: Option<Part>, status: u16) -> usize
     requires { at ≤ length buf.old }
     ensures buf_after { buf.new ≡ overwrite buf.old at (bytes_in (lead_pieces status (error_found s.now error))) }
     ensures place_after { PlaceAfter buf.old at (bytes_in (lead_pieces status (error_found s.now error))) result }
 {
     match error {
-        ErrorAt::At(part) => put_error(buf, at, wire::part_of(s, part), status),
-        ErrorAt::Missing => at,
+        Some(part) => put_error(buf, at, wire::part_of(s, part), status),
+        None => at,
     }
 }
 
@@ -335,8 +329,8 @@ fn put_sets(buf: &mut [u8], at: usize, s: &[u8], classification: &[u8], next: us
     ensures place_after { PlaceAfter buf.old at (bytes_in (sets_of classification.now (records (drop next s.now)))) result }
 {
     match emission::error_in(s, next, script::TERMINAL_ERROR) {
-        ErrorAt::At(part) => put_error(buf, at, wire::part_of(s, part), TERMINAL),
-        ErrorAt::Missing => {
+        Some(part) => put_error(buf, at, wire::part_of(s, part), TERMINAL),
+        None => {
             let a = put_lead(
                 buf,
                 at,
@@ -372,40 +366,39 @@ fn put_pieces(buf: &mut [u8], at: usize, s: &[u8]) -> usize
 }
 
 // The reply of a script, as one packet at the buffer's front: `build_query_results` of the Rust.
-pub fn build_query_results(script: &[u8], buf: &mut [u8]) -> Built
-    ensures value { result ≡ built_of script.now (length buf.old) }
+pub fn build_query_results(script: &[u8], buf: &mut [u8]) -> Result<usize, Refusal>
+    ensures value { numbered result ≡ built_of script.now (length buf.old) }
     ensures buf_after { buf.new ≡ buffer_of script.now buf.old }
 {
-    match emission::reply_length(script) {
-        Measure::Refused(number) => Built::Refused(number),
-        Measure::Size(length) => {
-            if buf.len() < length {
-                return Built::Refused(BUFFER_TOO_SHORT);
-            }
-            let at = packet::write_reply_header(buf, (length % 65536) as u16);
-            put_pieces(buf, at, script);
-            Built::Written(length)
-        }
+    let length = emission::reply_length(script)?;
+    if buf.len() < length {
+        return Err(Refusal::BufferTooShort);
     }
+    let at = packet::write_reply_header(buf, length as u16);
+    put_pieces(buf, at, script);
+    Ok(length)
 }
 
 // The narrowings of `build_query_results`: a script that holds no more than each of them takes is what they send.
-pub fn build_query_result(script: &[u8], buf: &mut [u8]) -> Built
-    ensures value { result ≡ built_of script.now (length buf.old) }
+pub fn build_query_result(script: &[u8], buf: &mut [u8]) -> Result<usize, Refusal>
+    ensures value { numbered result ≡ built_of script.now (length buf.old) }
     ensures buf_after { buf.new ≡ buffer_of script.now buf.old }
 {
     build_query_results(script, buf)
 }
 
-pub fn build_query_result_with_trailing_info(script: &[u8], buf: &mut [u8]) -> Built
-    ensures value { result ≡ built_of script.now (length buf.old) }
+pub fn build_query_result_with_trailing_info(
+    script: &[u8],
+    buf: &mut [u8],
+) -> Result<usize, Refusal>
+    ensures value { numbered result ≡ built_of script.now (length buf.old) }
     ensures buf_after { buf.new ≡ buffer_of script.now buf.old }
 {
     build_query_results(script, buf)
 }
 
-pub fn build_query_result_with_extras(script: &[u8], buf: &mut [u8]) -> Built
-    ensures value { result ≡ built_of script.now (length buf.old) }
+pub fn build_query_result_with_extras(script: &[u8], buf: &mut [u8]) -> Result<usize, Refusal>
+    ensures value { numbered result ≡ built_of script.now (length buf.old) }
     ensures buf_after { buf.new ≡ buffer_of script.now buf.old }
 {
     build_query_results(script, buf)
@@ -413,56 +406,51 @@ pub fn build_query_result_with_extras(script: &[u8], buf: &mut [u8]) -> Built
 
 // The payload of n bytes that a script emits, in packets of a size: it is written so that it ends where the packets will end,
 // and is cut where it stands.
-fn put_in_packets(script: &[u8], size: u16, n: u16, buf: &mut [u8]) -> Built
+fn put_in_packets(script: &[u8], size: u16, n: u16, buf: &mut [u8]) -> Result<usize, Refusal>
     requires { (9 ≤ size) × (n ≡ length (bytes_in (walked script.now))) }
-    ensures value { result ≡ fitted (Built.Written (length (packets_of size (bytes_in (walked script.now))))) (length buf.old) }
-    ensures buf_after { buf.new ≡ leaves (fitted (Built.Written (length (packets_of size (bytes_in (walked script.now))))) (length buf.old)) (packets_of size (bytes_in (walked script.now))) buf.old }
+    ensures value { numbered result ≡ fitted (Ok (length (packets_of size (bytes_in (walked script.now))))) (length buf.old) }
+    ensures buf_after { buf.new ≡ leaves (fitted (Ok (length (packets_of size (bytes_in (walked script.now))))) (length buf.old)) (packets_of size (bytes_in (walked script.now))) buf.old }
 {
     let total = packet::packets_length(size, n);
     if buf.len() < total {
-        return Built::Refused(BUFFER_TOO_SHORT);
+        return Err(Refusal::BufferTooShort);
     }
     put_pieces(buf, total - n as usize, script);
     // The packets have room, so that it is cut.
     packet::cut_in_place(buf, size, n);
-    Built::Written(total)
+    Ok(total)
 }
 
 // The reply of a script, in packets of a size at the buffer's front.
-pub fn build_query_results_in_packets(script: &[u8], size: usize, buf: &mut [u8]) -> Built
-    ensures value { result ≡ built_in_packets size script.now (length buf.old) }
+pub fn build_query_results_in_packets(
+    script: &[u8],
+    size: usize,
+    buf: &mut [u8],
+) -> Result<usize, Refusal>
+    ensures value { numbered result ≡ built_in_packets size script.now (length buf.old) }
     ensures buf_after { buf.new ≡ buffer_in_packets size script.now buf.old }
 {
     if !packet::is_packet_size(size) {
-        return Built::Refused(PACKET_SIZE);
+        return Err(Refusal::PacketSize);
     }
-    match emission::reply_length(script) {
-        Measure::Refused(number) => Built::Refused(number),
-        Measure::Size(length) => put_in_packets(script, size as u16, (length - 8) as u16, buf),
-    }
+    let length = emission::reply_length(script)?;
+    put_in_packets(script, size as u16, (length - 8) as u16, buf)
 }
 
 // The room for a script's reply as one packet, exactly its length: what its builder answers where enough is lent.
-pub fn room_estimate(script: &[u8]) -> Built
-    ensures { result ≡ room_of script.now }
+pub fn room_estimate(script: &[u8]) -> Result<usize, Refusal>
+    ensures { numbered result ≡ room_of script.now }
 {
-    match emission::reply_length(script) {
-        Measure::Size(length) => Built::Written(length),
-        Measure::Refused(number) => Built::Refused(number),
-    }
+    emission::reply_length(script)
 }
 
 // The room for it in packets of a size, exactly the sum of all packets with their headers.
-pub fn room_in_packets(script: &[u8], size: usize) -> Built
-    ensures { result ≡ room_at size script.now }
+pub fn room_in_packets(script: &[u8], size: usize) -> Result<usize, Refusal>
+    ensures { numbered result ≡ room_at size script.now }
 {
     if !packet::is_packet_size(size) {
-        return Built::Refused(PACKET_SIZE);
+        return Err(Refusal::PacketSize);
     }
-    match emission::reply_length(script) {
-        Measure::Refused(number) => Built::Refused(number),
-        Measure::Size(length) => {
-            Built::Written(packet::packets_length(size as u16, (length - 8) as u16))
-        }
-    }
+    let length = emission::reply_length(script)?;
+    Ok(packet::packets_length(size as u16, (length - 8) as u16))
 }
