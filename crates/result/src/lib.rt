@@ -19,7 +19,7 @@ ghost use Rattle.result.specs.Inner.{Put};
 
 use refusals::Refusal;
 use script::Found;
-use token::{ColumnValue, KnownColumnValue, KnownDataType};
+use token::{ColumnValue, Message};
 use wire::Part;
 
 // The status of the DONE that ends a set: its row count is valid (0010), and where a set follows there is more (0001).
@@ -45,11 +45,11 @@ fn put_column(buf: &mut [u8], at: usize, p: &[u8]) -> usize
     ensures place_after { PlaceAfter buf.old at (bytes_in (column_piece p.now)) result }
 {
     match token::data_type_of(wire::get_u8(p, 0)) {
-        KnownDataType::Known(t) => {
+        Some(t) => {
             let collation = emission::collation(t, p);
             token::put_column(buf, at, t, collation, script::rest_after(p, 6))
         }
-        KnownDataType::Unknown => at,
+        None => at,
     }
 }
 
@@ -57,25 +57,17 @@ fn put_info(buf: &mut [u8], at: usize, p: &[u8]) -> usize
     ensures buf_after { buf.new ≡ overwrite buf.old at (token_bytes (info_token p.now)) }
     ensures place_after { PlaceAfter buf.old at (token_bytes (info_token p.now)) result }
 {
-    let number = wire::get_u32_le(p, 0);
-    let state = wire::get_u8(p, 4);
-    let severity = wire::get_u8(p, 5);
-    let line = wire::get_u32_le(p, 6);
-    let message = script::info_message(p);
-    let server = script::info_server(p);
-    let procedure = script::info_procedure(p);
-    token::put_message(
-        buf,
-        at,
-        token::INFO,
-        number,
-        state,
-        severity,
-        message,
-        server,
-        procedure,
-        line,
-    )
+    let info = Message {
+        kind: token::INFO,
+        number: wire::get_u32_le(p, 0),
+        state: wire::get_u8(p, 4),
+        class: wire::get_u8(p, 5),
+        text: script::info_message(p),
+        server: script::info_server(p),
+        procedure: script::info_procedure(p),
+        line: wire::get_u32_le(p, 6),
+    };
+    token::put_message(buf, at, &info)
 }
 
 // An error and its DONE.
@@ -83,21 +75,18 @@ fn put_error(buf: &mut [u8], at: usize, p: &[u8], status: u16) -> usize
     ensures buf_after { buf.new ≡ overwrite buf.old at (bytes_in (lead_pieces status (some p.now))) }
     ensures place_after { PlaceAfter buf.old at (bytes_in (lead_pieces status (some p.now))) result }
 {
-    let number = wire::get_u32_le(p, 0);
-    let severity = wire::get_u8(p, 4);
     let none = &p[..0];
-    let next = token::put_message(
-        buf,
-        at,
-        token::ERROR,
-        number,
-        1,
-        severity,
-        script::rest_after(p, 5),
-        none,
-        none,
-        1,
-    );
+    let error = Message {
+        kind: token::ERROR,
+        number: wire::get_u32_le(p, 0),
+        state: 1,
+        class: wire::get_u8(p, 4),
+        text: script::rest_after(p, 5),
+        server: none,
+        procedure: none,
+        line: 1,
+    };
+    let next = token::put_message(buf, at, &error);
     token::put_done(buf, next, status, 0)
 }
 
@@ -233,8 +222,8 @@ fn put_cell(buf: &mut [u8], at: usize, s: &[u8], p: &[u8], next: usize) -> Place
     ensures { Put buf.old at (bytes_in (cell_pieces p.now (ahead 6 (records (drop next s.now))))) buf.new s.now next result }
 {
     match token::column_value_of(wire::get_u8(p, 0)) {
-        KnownColumnValue::Known(value) => put_value(buf, at, s, value, p, next),
-        KnownColumnValue::Unknown => Placed { place: at, next },
+        Some(value) => put_value(buf, at, s, value, p, next),
+        None => Placed { place: at, next },
     }
 }
 
