@@ -41,9 +41,16 @@ unfolding cut_from
 left-none room payload from number h = let z : length payload - from ≡ 0 = omega arith in rw z
 
 -- all of them are those of the payload
-pub left-all : (size : ℕ) (payload : List ℕ) → 9 ≤ size → whole_packets size payload ≡ packets_left (size - 8) payload 0 1
-unfolding whole_packets packets_of
-left-all size payload h = let z : length payload - 0 ≡ length payload = omega arith in rw (lt-leb size 8 h, z)
+pub left-parts : (room : ℕ) (payload : List ℕ) → packets_left room payload 0 1 ≡ packets_of (8 + room) payload
+unfolding packets_of
+left-parts room payload =
+    let z : length payload - 0 ≡ length payload = omega arith in
+    let r : 8 + room - 8 ≡ room = omega arith in
+    rw (z, r)
+
+pub whole-parts : (size : ℕ) (payload : List ℕ) → 9 ≤ size → packets_of (8 + (size - 8)) payload ≡ whole_packets size payload
+unfolding whole_packets
+whole-parts size payload h = let r : 8 + (size - 8) ≡ size = omega arith in rw (lt-leb size 8 h, r)
 
 pub none-whole : (size : ℕ) (payload buf : List ℕ) → size ≤ 8 → Wrote buf 0 (whole_packets size payload) buf 0
 unfolding whole_packets

@@ -6,16 +6,18 @@
 ghost use Rattle.std.specs.Prelude.{◌≡◌, cond, [], ◌∷◌, ◌+◌, ◌-◌, ◌≤◌, ◌<◌, min, length, take, drop, ok_or};
 ghost use Rattle.refusals.specs.Refused.{numbered};
 ghost use Rattle.refusals.specs.declared.Refusal.TheVariants.{UnknownPacketType};
-ghost use Rattle.wire.specs.Over.{overwrite, PlaceAfter, Wrote};
+ghost use Rattle.wire.specs.Over.{overwrite, PlaceAfter};
+ghost use Rattle.wire.specs.Puts.{Puts};
 ghost use Rattle.packet.specs.Types.{byte_of, type_of};
 ghost use Rattle.packet.specs.Status.{has_bit};
 ghost use Rattle.packet.specs.Header.{new_header, parsed_of, header_bytes};
 ghost use Rattle.packet.specs.Reply.{reply_header};
-ghost use Rattle.packet.specs.Cut.{part_header, part_bytes, cut_from};
+ghost use Rattle.packet.specs.Cut.{part_header, part_bytes, cut_from, packets_of};
 ghost use Rattle.packet.specs.Agreed.{is_packet_size, packet_count, packets_length, whole_packets, cut_answer, cut_buffer};
 ghost use Rattle.packet.specs.Inner.{Stands};
 
 use refusals::Refusal;
+use wire::Writer;
 
 pub const PACKET_HEADER_SIZE: usize = 8;
 
@@ -136,27 +138,25 @@ impl PacketHeader {
         })
     }
 
-    // The header's eight bytes at a place of a lent buffer; the answer is the place after them.
-    pub fn write(self, buf: &mut [u8], at: usize) -> usize
-        ensures buf_after { buf.new ≡ overwrite buf.old at (header_bytes self) }
-        ensures place_after { PlaceAfter buf.old at (header_bytes self) result }
+    // The header's eight bytes.
+    pub fn write(self, w: &mut Writer)
+        ensures { Puts w.old (header_bytes self) w.new }
     {
         let packet_type = self.packet_type;
-        let next = wire::put_u8(buf, at, packet_type.byte());
-        let next = wire::put_u8(buf, next, self.status.0);
-        let next = wire::put_u16(buf, next, self.length);
-        let next = wire::put_u16(buf, next, self.spid);
-        let next = wire::put_u8(buf, next, self.packet_id);
-        wire::put_u8(buf, next, self.window)
+        w.put_u8(packet_type.byte());
+        w.put_u8(self.status.0);
+        w.put_u16(self.length);
+        w.put_u16(self.spid);
+        w.put_u8(self.packet_id);
+        w.put_u8(self.window);
     }
 }
 
-// A reply's header at the buffer's front, where its payload stands or is to stand after it: length is that of the whole packet.
-pub fn write_reply_header(buf: &mut [u8], length: u16) -> usize
-    ensures buf_after { buf.new ≡ overwrite buf.old 0 (reply_header length) }
-    ensures place_after { PlaceAfter buf.old 0 (reply_header length) result }
+// A reply's header: length is that of the whole packet.
+pub fn write_reply_header(w: &mut Writer, length: u16)
+    ensures { Puts w.old (reply_header length) w.new }
 {
-    PacketHeader::new(PacketType::TabularResult, length, 1).write(buf, 0)
+    PacketHeader::new(PacketType::TabularResult, length, 1).write(w);
 }
 
 // The least and the most bytes of a packet that can be agreed at login, header included.
@@ -218,42 +218,40 @@ fn part_header(number: usize, last: bool, len: usize) -> PacketHeader
     }
 }
 
-// Bytes of a buffer moved down in it; those that stand where they belong are left.
-fn move_down(buf: &mut [u8], to: usize, from: usize, len: usize) -> usize
-    requires { (to ≤ from) × (from + len ≤ length buf.old) }
-    ensures { Wrote buf.old to (take len (drop from buf.old)) buf.new result }
+// Bytes that stand further on in the writer's buffer, moved down to its place; those that stand where they belong are left.
+fn move_down(w: &mut Writer, from: usize, len: usize)
+    requires { (w.old.at ≤ from) × (from + len ≤ length w.old.buf.now) }
+    ensures { Puts w.old (take len (drop from w.old.buf.now)) w.new }
 {
-    if to != from {
-        buf.copy_within(from..from + len, to);
+    if w.at != from {
+        w.buf.copy_within(from..from + len, w.at);
     }
-    to + len
+    w.at += len;
 }
 
-// A packet whose payload stands further on in the buffer.
-fn move_part(buf: &mut [u8], at: usize, number: usize, last: bool, from: usize, len: usize) -> usize
-    requires { (len < 65528) × (at + 8 ≤ from) × (from + len ≤ length buf.old) }
-    ensures { Wrote buf.old at (part_bytes number last (take len (drop from buf.old))) buf.new result }
+// A packet whose payload stands further on in the writer's buffer.
+fn move_part(w: &mut Writer, number: usize, last: bool, from: usize, len: usize)
+    requires { (len < 65528) × (w.old.at + 8 ≤ from) × (from + len ≤ length w.old.buf.now) }
+    ensures { Puts w.old (part_bytes number last (take len (drop from w.old.buf.now))) w.new }
 {
-    let next = part_header(number, last, len).write(buf, at);
-    move_down(buf, next, from, len)
+    part_header(number, last, len).write(w);
+    move_down(w, from, len);
 }
 
-// The packets of the payload that stands in the buffer from a place up to total, where the packets end too.
-fn move_parts(buf: &mut [u8], room: usize, from: usize, total: usize) -> usize
-    requires { (room < 65528) × Stands room 0 from total (length buf.old) }
-    ensures { Wrote buf.old 0 (cut_from (total - from) 1 room (take (total - from) (drop from buf.old))) buf.new result }
+// The packets of the payload that stands in the writer's buffer from a place up to total, where the packets end too.
+fn move_parts(w: &mut Writer, room: usize, from: usize, total: usize)
+    requires { (w.old.at ≡ 0) × (room < 65528) × Stands room 0 from total (length w.old.buf.now) }
+    ensures { Puts w.old (cut_from (total - from) 1 room (take (total - from) (drop from w.old.buf.now))) w.new }
 {
-    let mut at: usize = 0;
     let mut place = from;
     let mut number = FIRST_NUMBER;
     while place < total {
         let left = total - place;
         let len = left.min(room);
-        at = move_part(buf, at, number, left <= room, place, len);
+        move_part(w, number, left <= room, place, len);
         place += len;
         number += 1;
     }
-    at
 }
 
 // A payload of n bytes cut where it stands, into packets at the buffer's front: it begins after eight bytes for each of them, so
@@ -271,16 +269,18 @@ pub fn cut_in_place(buf: &mut [u8], size: u16, n: u16) -> Option<usize>
     }
     let room = size as usize - 8;
     let from = total - n as usize;
-    Some(move_parts(buf, room, from, total))
+    let mut w = Writer { buf, at: 0 };
+    move_parts(&mut w, room, from, total);
+    Some(w.at)
 }
 
 // A packet with its payload.
-fn put_part(buf: &mut [u8], at: usize, number: usize, last: bool, part: &[u8]) -> usize
+fn put_part(w: &mut Writer, number: usize, last: bool, part: &[u8])
     requires { length part.now < 65528 }
-    ensures { Wrote buf.old at (part_bytes number last part.now) buf.new result }
+    ensures { Puts w.old (part_bytes number last part.now) w.new }
 {
-    let next = part_header(number, last, part.len()).write(buf, at);
-    wire::put_slice(buf, next, part)
+    part_header(number, last, part.len()).write(w);
+    w.put_slice(part);
 }
 
 // The packets of a payload, cut into a buffer; of a size without room for payload, none.
@@ -292,15 +292,23 @@ pub fn put_packets(buf: &mut [u8], size: u16, payload: &[u8]) -> usize
         return 0;
     }
     let room = size as usize - PACKET_HEADER_SIZE;
-    let mut at: usize = 0;
+    let mut w = Writer { buf, at: 0 };
+    put_parts(&mut w, room, payload);
+    w.at
+}
+
+// The packets of a payload that have at most room bytes of it each.
+fn put_parts(w: &mut Writer, room: usize, payload: &[u8])
+    requires { (w.old.at ≤ length w.old.buf.now) × (1 ≤ room) × (room < 65528) }
+    ensures { Puts w.old (packets_of (8 + room) payload.now) w.new }
+{
     let mut from: usize = 0;
     let mut number = FIRST_NUMBER;
     while from < payload.len() {
         let left = payload.len() - from;
         let end = from + left.min(room);
-        at = put_part(buf, at, number, left <= room, &payload[from..end]);
+        put_part(w, number, left <= room, &payload[from..end]);
         from = end;
-        number = number + 1;
+        number += 1;
     }
-    at
 }

@@ -1,5 +1,7 @@
 -- `packet::cut_in_place` meets its contract. Assumes nothing.
+use mathlib.Core.Path.{refl}
 use native.Mathlib.Omega.{arith}
+use borrow.Author.Rules.{rules}
 use Rattle.packet.proofs.Cutting.{no_room, too_short, long-enough, stands-first, cut-done}
 use Rattle.packet.proofs.cut_in_place.Goals as goal
 
@@ -17,8 +19,9 @@ overflow_sub-from c = let a = c.args in
 
 pub move_parts-requires : goal.move_parts-requires
 move_parts-requires c = let a = c.args in
-    (omega arith, stands-first a.size a.n a.buf.now (omega arith) _ c.packets_length-total.ensures (omega arith))
+    (refl, omega arith, stands-first a.size a.n a.buf.now (omega arith) _ c.packets_length-total.ensures (omega arith))
 
 pub returns : goal.returns
 returns c = let a = c.args in
-    let w = cut-done a.size a.n a.buf.now (omega arith) _ c.packets_length-total.ensures (omega arith) c.move_parts.ensures in record { value = w.0; buf_after = w.1 }
+    let v = c.move_parts.ensures.wrote in
+    let w = cut-done a.size a.n a.buf.now (omega arith) _ c.packets_length-total.ensures (omega arith) v in record { value = w.0; buf_after = search (rules, w.1) }
