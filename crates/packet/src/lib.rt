@@ -82,16 +82,16 @@ impl PacketStatus {
         PacketStatus(Self::END_OF_MESSAGE)
     }
 
-    pub fn is_end_of_message(status: PacketStatus) -> bool
-        ensures { result ≡ has_bit 0x01 status.0 }
+    pub fn is_end_of_message(self) -> bool
+        ensures { result ≡ has_bit 0x01 self.0 }
     {
-        status.0 & Self::END_OF_MESSAGE != 0
+        self.0 & Self::END_OF_MESSAGE != 0
     }
 
-    pub fn is_ignore(status: PacketStatus) -> bool
-        ensures { result ≡ has_bit 0x02 status.0 }
+    pub fn is_ignore(self) -> bool
+        ensures { result ≡ has_bit 0x02 self.0 }
     {
-        status.0 & Self::IGNORE != 0
+        self.0 & Self::IGNORE != 0
     }
 }
 
