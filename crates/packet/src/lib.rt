@@ -293,14 +293,10 @@ pub fn put_packets(buf: &mut [u8], size: u16, payload: &[u8]) -> usize
     }
     let room = size as usize - PACKET_HEADER_SIZE;
     let mut at: usize = 0;
-    let mut from: usize = 0;
-    let mut number = FIRST_NUMBER;
-    while from < payload.len() {
-        let left = payload.len() - from;
-        let end = from + left.min(room);
-        at = put_part(buf, at, number, left <= room, &payload[from..end]);
-        from = end;
-        number = number + 1;
+    let mut left = payload.len();
+    for (i, part) in payload.chunks(room).enumerate() {
+        left -= part.len();
+        at = put_part(buf, at, FIRST_NUMBER + i, left == 0, part);
     }
     at
 }
