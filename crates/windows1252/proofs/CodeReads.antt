@@ -1,6 +1,7 @@
 -- What reading a label comes to, from what its total and chunks come to, and what an answer tells of it. Assumes nothing.
 use mathlib.Core.Path.{◌≡◌, refl, sym, ap, ◌∙◌}
 use mathlib.Core.Bool.{Bool, true, false, cond, not, ◌||◌}
+use Rattle.std.specs.Prelude.{Option, Some, None, Result, Ok, Err}
 use mathlib.Core.List.{List}
 use Prim.Native.Nat.{ℕ, suc, ◌+◌, ◌*◌, ◌≤◌, ◌<◌}
 use native.Mathlib.Omega.{arith}
@@ -29,10 +30,8 @@ use Rattle.cells.specs.declared.ChunksRead.{ChunksRead}
 use Rattle.cells.specs.declared.ChunksRead.TheVariants as chunks
 use Rattle.cells.specs.Answers.{chunks_read}
 use Rattle.cells.proofs.CodeChunks.{chunks-is, chunks-is-not}
-use Rattle.windows1252.specs.declared.Label.{Label}
-use Rattle.windows1252.specs.declared.Label.TheVariants as label
 use Rattle.windows1252.specs.Table.{text_of}
-use Rattle.windows1252.specs.Labels.{Reading, text, null, not_read, chunks_joined, shown, label_of, wholly, read_of, most_characters}
+use Rattle.windows1252.specs.Labels.{Reading, chunks_joined, shown, label_of, wholly, read_of, most_characters}
 use Rattle.windows1252.specs.Answers.{size_of, read_in, text_left}
 use Rattle.windows1252.specs.Code.{null_at, text_at}
 use Rattle.windows1252.proofs.Texts.{length-text}
@@ -60,7 +59,7 @@ either_true false = refl
 pub null_size : (v : List ℕ) (at : ℕ) → null_at (length v) at ≡ size_of (wholly v (whole cell.Null at))
 null_size v at = by-test (eqb at (length v)) (λ t. rw t) (λ t. rw t)
 
-shown-size : (bs : List ℕ) → cond (leb (length bs) most_characters) (label.Text (2 * length bs)) (label.Refused result_too_long) ≡ size_of (shown bs)
+shown-size : (bs : List ℕ) → cond (leb (length bs) most_characters) (Ok (Some (2 * length bs))) (Err result_too_long) ≡ size_of (shown bs)
 unfolding shown
 shown-size bs = by-test (leb (length bs) most_characters) (λ t. rw (t, length-text bs)) (λ t. rw t)
 
@@ -72,12 +71,12 @@ module _ (v : List ℕ) {frame : Frame} (b : frame ≡ body_frame (length v)) {r
   total-read = rw (body-read v b) at e
 
   -- the total is cut
-  pub total-cut : {n : ℕ} → r ≡ number.Refused n → label.Refused n ≡ size_of (read_of v)
+  pub total-cut : {n : ℕ} → r ≡ number.Refused n → Err n ≡ size_of (read_of v)
   unfolding max_at
   total-cut f = sym (ap size_of (read_by v (number-not 8 (body_source v) 0 _ total-read f)))
 
   module _ {m : NumberAt} (f : r ≡ number.Whole m) where
-    pub null-read : {a : Label} → m.value ≡ 0xFFFFFFFFFFFFFFFF → a ≡ null_at (length v) m.next → a ≡ size_of (read_of v)
+    pub null-read : {a : Result (Option ℕ) ℕ} → m.value ≡ 0xFFFFFFFFFFFFFFFF → a ≡ null_at (length v) m.next → a ≡ size_of (read_of v)
     unfolding max_at
     null-read q g = g ∙ null_size v m.next ∙ sym (ap size_of (read_by v (number-got 8 (body_source v) 0 _ total-read f ∙ if-so _ _ (eq-eqb _ _ q))))
 
@@ -86,13 +85,13 @@ module _ (v : List ℕ) {frame : Frame} (b : frame ≡ body_frame (length v)) {r
       chunks-read : k ≡ chunks_read (body_source v) m.next (chunks_at (suc (length v)) false (not (eqb m.value 0xFFFFFFFFFFFFFFFE)) (body_source v) m.next m.value m.next)
       chunks-read = rw (body-read v b) at g
 
-      pub chunks-cut : {n : ℕ} → k ≡ chunks.Refused n → label.Refused n ≡ size_of (read_of v)
+      pub chunks-cut : {n : ℕ} → k ≡ chunks.Refused n → Err n ≡ size_of (read_of v)
       unfolding max_at
       chunks-cut h =
           sym (ap size_of (read_by v (number-got 8 (body_source v) 0 _ total-read f ∙ if-not _ _ (ne_eqb _ _ q) ∙ must-hold _ _ (either_true (even m.value))
           ∙ then-not _ (chunks-is-not (body_source v) _ _ chunks-read h))))
 
-      pub text-read : {n : ChunksAt} {a : Label} → k ≡ chunks.Whole n → a ≡ text_at (length v) n.next n.count → a ≡ size_of (read_of v)
+      pub text-read : {n : ChunksAt} {a : Result (Option ℕ) ℕ} → k ≡ chunks.Whole n → a ≡ text_at (length v) n.next n.count → a ≡ size_of (read_of v)
       unfolding max_at chunks_joined
       text-read {n} h w =
           let is = chunks-is (body_source v) _ _ chunks-read h in
@@ -103,77 +102,77 @@ module _ (v : List ℕ) {frame : Frame} (b : frame ≡ body_frame (length v)) {r
 
 -- ---- what `measured` tells
 
-pub size-refused : (x : Reading) {r : Label} {n : ℕ} → r ≡ size_of x → r ≡ label.Refused n → x ≡ not_read n
-size-refused (text t) e f = clash (cc)
-size-refused null e f = clash (cc)
-size-refused (not_read m) e f = cc
+pub size-refused : (x : Reading) {n : ℕ} → Err n ≡ size_of x → x ≡ Err n
+size-refused (Ok (Some t)) e = clash (cc)
+size-refused (Ok None) e = clash (cc)
+size-refused (Err m) e = sym e
 
-pub size-null : (x : Reading) {r : Label} → r ≡ size_of x → r ≡ label.Null → x ≡ null
-size-null (text t) e f = clash (cc)
-size-null null e f = refl
-size-null (not_read m) e f = clash (cc)
+pub size-null : (x : Reading) → Ok None ≡ size_of x → x ≡ Ok None
+size-null (Ok (Some t)) e = clash (cc)
+size-null (Ok None) e = refl
+size-null (Err m) e = clash (cc)
 
-shown-text : (b : Bool) (bs : List ℕ) {t : List ℕ} → leb (length bs) most_characters ≡ b → cond b (text (text_of bs)) (not_read result_too_long) ≡ text t
+shown-text : (b : Bool) (bs : List ℕ) {t : List ℕ} → leb (length bs) most_characters ≡ b → cond b (Ok (Some (text_of bs))) (Err result_too_long) ≡ Ok (Some t)
     → (t ≡ text_of bs) × (length bs ≤ most_characters)
 shown-text true bs e f = (cc, leb-true (length bs) most_characters e)
 shown-text false bs e f = clash (cc)
 
-label-text : (v : List ℕ) (x : Value) {t : List ℕ} → label_of v x ≡ text t → (t ≡ text_of (chunks_joined v)) × (length (chunks_joined v) ≤ most_characters)
+label-text : (v : List ℕ) (x : Value) {t : List ℕ} → label_of v x ≡ Ok (Some t) → (t ≡ text_of (chunks_joined v)) × (length (chunks_joined v) ≤ most_characters)
 unfolding shown
 label-text v cell.Null e = clash (cc)
 label-text v (cell.Max part) e = shown-text (leb (length (chunks_joined v)) most_characters) (chunks_joined v) refl e
 label-text v (cell.Part part) e = clash (cc)
 label-text v (cell.Number n) e = clash (cc)
 
-all_read : (b : Bool) (x : Reading) {t : List ℕ} → cond b x (not_read inner_wrong) ≡ text t → x ≡ text t
+all_read : (b : Bool) (x : Reading) {t : List ℕ} → cond b x (Err inner_wrong) ≡ Ok (Some t) → x ≡ Ok (Some t)
 all_read true x e = e
 all_read false x e = clash (cc)
 
-wholly-text : (v : List ℕ) (x : Read Value) {t : List ℕ} → wholly v x ≡ text t → (t ≡ text_of (chunks_joined v)) × (length (chunks_joined v) ≤ most_characters)
+wholly-text : (v : List ℕ) (x : Read Value) {t : List ℕ} → wholly v x ≡ Ok (Some t) → (t ≡ text_of (chunks_joined v)) × (length (chunks_joined v) ≤ most_characters)
 wholly-text v (whole x at) e = label-text v x (all_read (eqb at (length v)) (label_of v x) e)
 wholly-text v (refused r) e = clash (cc)
 
 -- a text that is read is that of the chunks' bytes joined
-pub read-text : (v : List ℕ) {t : List ℕ} → read_of v ≡ text t → (t ≡ text_of (chunks_joined v)) × (length (chunks_joined v) ≤ most_characters)
+pub read-text : (v : List ℕ) {t : List ℕ} → read_of v ≡ Ok (Some t) → (t ≡ text_of (chunks_joined v)) × (length (chunks_joined v) ≤ most_characters)
 unfolding read_of
 read-text v e = wholly-text v (cell_at 0xA7 0xFFFF (body_source v) 0) e
 
 pub record Told (v : List ℕ) (n : ℕ) : Type 0 where
-  pub is : read_of v ≡ text (text_of (chunks_joined v))
+  pub is : read_of v ≡ Ok (Some (text_of (chunks_joined v)))
   pub size : length (text_of (chunks_joined v)) ≡ n
   pub room : 2 * length (chunks_joined v) ≡ n
 
-size-told : (v : List ℕ) (x : Reading) {r : Label} {n : ℕ} → read_of v ≡ x → r ≡ size_of x → r ≡ label.Text n → Told v n
-size-told v (text t) {n = n} q e f =
+size-told : (v : List ℕ) (x : Reading) {n : ℕ} → read_of v ≡ x → Ok (Some n) ≡ size_of x → Told v n
+size-told v (Ok (Some t)) {n = n} q e =
     let w = read-text v q in
     let long : length t ≡ n = cc in
     let same : length (text_of (chunks_joined v)) ≡ n = rw w.0 at long in
     record { is = rw w.0 at q; size = same; room = omega (arith, same, length-text (chunks_joined v)) }
-size-told v null q e f = clash (cc)
-size-told v (not_read m) q e f = clash (cc)
+size-told v (Ok None) q e = clash (cc)
+size-told v (Err m) q e = clash (cc)
 
-pub size-text : (v : List ℕ) {r : Label} {n : ℕ} → r ≡ size_of (read_of v) → r ≡ label.Text n → Told v n
-size-text v e f = size-told v (read_of v) refl e f
+pub size-text : (v : List ℕ) {n : ℕ} → Ok (Some n) ≡ size_of (read_of v) → Told v n
+size-text v e = size-told v (read_of v) refl e
 
 -- ---- the answers of `read_value`, and what is left in the buffer
 
 module _ (v buf : List ℕ) where
   -- the answer r with the buffer left
-  abbrev pub Read-ends : Label → List ℕ → Type 0
+  abbrev pub Read-ends : Result (Option ℕ) ℕ → List ℕ → Type 0
   Read-ends r left = (r ≡ read_in v (length buf)) × (left ≡ text_left v buf)
 
-  pub ends-refused : {n : ℕ} → read_of v ≡ not_read n → Read-ends (label.Refused n) buf
+  pub ends-refused : {n : ℕ} → read_of v ≡ Err n → Read-ends (Err n) buf
   unfolding read_in text_left
   ends-refused e = (rw e, rw e)
 
-  pub ends-null : read_of v ≡ null → Read-ends label.Null buf
+  pub ends-null : read_of v ≡ Ok None → Read-ends (Ok None) buf
   unfolding read_in text_left
   ends-null e = (rw e, rw e)
 
-  pub ends-short : {n : ℕ} → Told v n → length buf < n → Read-ends (label.Refused buffer_too_short) buf
+  pub ends-short : {n : ℕ} → Told v n → length buf < n → Read-ends (Err buffer_too_short) buf
   unfolding read_in text_left
   ends-short {n} t h = (rw (t.is, t.size, lt-ltb (length buf) n h), rw (t.is, t.size, lt-ltb (length buf) n h))
 
-  pub ends-text : {n : ℕ} {left : List ℕ} → Told v n → n ≤ length buf → left ≡ overwrite buf 0 (text_of (chunks_joined v)) → Read-ends (label.Text n) left
+  pub ends-text : {n : ℕ} {left : List ℕ} → Told v n → n ≤ length buf → left ≡ overwrite buf 0 (text_of (chunks_joined v)) → Read-ends (Ok (Some n)) left
   unfolding read_in text_left
   ends-text {n} t h w = (rw (t.is, t.size, le-ltb (length buf) n h), w ∙ rw (t.is, t.size, le-ltb (length buf) n h))
