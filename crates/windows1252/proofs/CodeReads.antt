@@ -105,7 +105,7 @@ module _ (v : List ℕ) {frame : Frame} (b : frame ≡ body_frame (length v)) {r
 pub size-refused : (x : Reading) {n : ℕ} → Err n ≡ size_of x → x ≡ Err n
 size-refused (Ok (Some t)) e = clash (cc)
 size-refused (Ok None) e = clash (cc)
-size-refused (Err m) e = sym e
+size-refused (Err m) e = cc
 
 pub size-null : (x : Reading) → Ok None ≡ size_of x → x ≡ Ok None
 size-null (Ok (Some t)) e = clash (cc)

@@ -1,43 +1,30 @@
-use Rattle.std.proofs.Common.{rules, ◌≡◌, true, ◌+◌, ◌*◌, ◌≤◌, ◌<◌, length, ℕ, ◌-◌, ◌/◌, ◌%◌, Bool, false, nat_eq, nat_lt, List, [], ◌∷◌, ◌++◌, slice_index_or, slice_set, bit_and, bit_or, Fits, w8, w32, w64, Bor, MutBor}
-use Rattle.wire.specs.Over.{overwrite, PlaceAfter}
-use Rattle.wire.specs.Le.{le_at}
-use Rattle.wire.specs.Fields.{flat}
-use Rattle.refusals.specs.Refused.{numbered, refused_by}
-use Rattle.text.specs.Units.{units_of}
-use Rattle.windows1252.specs.Table.{table, have_bytes, bytes_of, text_of}
-use Rattle.windows1252.specs.Labels.{chunks_joined, read_of, value_bytes, written_of}
-use Rattle.windows1252.specs.Answers.{size_of, read_in, text_left, written_in, value_left}
-use Rattle.windows1252.specs.Code.{null_at, text_at, fault_by, value_size, chunk_fields}
+-- `windows1252::write_value` meets its contract. Assumes nothing.
+use mathlib.Core.Path.{sym}
+use native.Mathlib.Omega.{arith}
+use Rattle.std.proofs.lemmas.Result.{err_from_is_err_and}
+use Rattle.refusals.proofs.Numbers.{number-not-0}
+use Rattle.text.proofs.Scan.{length-units}
+use Rattle.windows1252.proofs.CodeWrites.{accepted, ends-refused, ends-short, ends-value}
 use Rattle.windows1252.proofs.write_value.Goals as goal
 
--- src/lib.rt:134:5
-pub returns-in_err-fault_of-clause-value : goal.returns-in_err-fault_of-clause-value
-returns-in_err-fault_of-clause-value c = ?
+pub returns-in_err-fault_of : goal.returns-in_err-fault_of
+returns-in_err-fault_of c = let a = c.args in
+    let w = ends-refused a.text.now a.buf.now c.in_err-fault_of.ensures (number-not-0 c.in_err-fault_of.field-0.0) in
+    let p = err_from_is_err_and c.from_residual.result c.from_residual.ensures.1 in
+    record { value = rw (p.1, p.2) w.0; buf_after = w.1 }
 
--- src/lib.rt:134:5
-pub returns-in_err-fault_of-clause-buf_after : goal.returns-in_err-fault_of-clause-buf_after
-returns-in_err-fault_of-clause-buf_after c = ?
-
--- src/lib.rt:135:9
 pub value_size-size-requires : goal.value_size-size-requires
-value_size-size-requires c = ?
+value_size-size-requires c = let t = c.args.text.now in
+    omega (arith, length-units t, (accepted t (sym c.in_ok-fault_of.ensures)).few)
 
--- src/lib.rt:137:9
-pub returns-then-buf-size-clause-value : goal.returns-then-buf-size-clause-value
-returns-then-buf-size-clause-value c = ?
+pub returns-then-buf-size : goal.returns-then-buf-size
+returns-then-buf-size c = let a = c.args in
+    let w = ends-short a.text.now a.buf.now (sym c.in_ok-fault_of.ensures) c.value_size-size.ensures c.if-buf-size.true in record { value = w.0; buf_after = w.1 }
 
--- src/lib.rt:137:9
-pub returns-then-buf-size-clause-buf_after : goal.returns-then-buf-size-clause-buf_after
-returns-then-buf-size-clause-buf_after c = ?
+pub put_value-requires : goal.put_value-requires
+put_value-requires c = let t = c.args.text.now in
+    record { text_value = sym c.in_ok-fault_of.ensures; text_in_bounds = rw (length-units t, ← c.value_size-size.ensures) (omega (arith, c.if-buf-size.false)) }
 
--- src/lib.rt:139:5
-pub put_value-requires-clause-text_in_bounds : goal.put_value-requires-clause-text_in_bounds
-put_value-requires-clause-text_in_bounds c = ?
-
--- src/lib.rt:130:1
-pub returns-clause-value : goal.returns-clause-value
-returns-clause-value c = ?
-
--- src/lib.rt:130:1
-pub returns-clause-buf_after : goal.returns-clause-buf_after
-returns-clause-buf_after c = ?
+pub returns : goal.returns
+returns c = let a = c.args in
+    let w = ends-value a.text.now a.buf.now (sym c.in_ok-fault_of.ensures) c.value_size-size.ensures (omega (arith, c.if-buf-size.false)) c.put_value.ensures in record { value = w.0; buf_after = w.1 }
