@@ -10,7 +10,7 @@ use Rattle.script.specs.Records.{records, record_at}
 use Rattle.script.specs.declared.Found.TheVariants.{Record, Cut, End}
 use Rattle.script.proofs.Walk.{lies}
 use Rattle.capture_marks.specs.Marks.{is_marked, capture_fault, marks_from, marks_of, counted_of}
-use Rattle.capture_marks.specs.declared.Marked.TheVariants.{Count, Refused}
+use Rattle.std.specs.Prelude.{Ok, Err}
 use Rattle.capture_marks.proofs.Turns.{same_count, fault-cut, fault-end, fault-kind, fault-next, marks-end, marks-next}
 
 -- of a capture s, the marks of the records before a place are counted: the records from the place on decide the refusal, and have the
@@ -27,15 +27,15 @@ module _ (s : List ℕ) where
   unfolding marks_of
   counting-start = (omega arith, omega arith, refl, omega arith)
 
-  refused-by : (f : ℕ) → (f ≡ 0 → ⊥) → capture_fault (records s) ≡ f → Refused f ≡ counted_of s
+  refused-by : (f : ℕ) → (f ≡ 0 → ⊥) → capture_fault (records s) ≡ f → Err f ≡ counted_of s
   unfolding counted_of
   refused-by f h e = rw (e, ne_eqb f 0 h)
 
   module _ (at count : ℕ) (m : Counting s at count) where
-    pub counting-cut : record_at s at ≡ Cut → Refused 11 ≡ counted_of s
+    pub counting-cut : record_at s at ≡ Cut → Err 11 ≡ counted_of s
     counting-cut e = refused-by 11 (λ z. omega arith) (sym m.2 ∙ fault-cut s at e)
 
-    pub counting-end : record_at s at ≡ End → Count count ≡ counted_of s
+    pub counting-end : record_at s at ≡ End → Ok count ≡ counted_of s
     unfolding counted_of
     counting-end e =
         let all : count ≡ length (marks_of s) = omega (arith, m.3, ap length (marks-end s at 0 e)) in
@@ -43,7 +43,7 @@ module _ (s : List ℕ) where
 
     -- a record, whose body is the slice from its start on
     module _ {k st n : ℕ} (e : record_at s at ≡ Record k st n) where
-      pub counting-kind : (k ≡ 0x0021 → ⊥) → Refused 12 ≡ counted_of s
+      pub counting-kind : (k ≡ 0x0021 → ⊥) → Err 12 ≡ counted_of s
       counting-kind h = refused-by 12 (λ z. omega arith) (sym m.2 ∙ fault-kind s at e h)
 
       -- one mark more where its body is marked

@@ -13,19 +13,20 @@ use Rattle.wire.proofs.Cases.{by-test, clash}
 use Rattle.wire.proofs.Rising.{RiseFrom, none-rises, rises}
 use Rattle.script.specs.Records.{Item, item, cut, records}
 use Rattle.request.specs.Headers.{all_headers, CannotBe}
-use Rattle.request.specs.declared.Headers.{Headers}
-use Rattle.request.specs.declared.Headers.TheVariants.{Length, Short, TooSmall, PastEnd}
+use Rattle.std.specs.Prelude.{Result, Ok, Err}
+use Rattle.request.specs.declared.HeadersFault.{HeadersFault}
+use Rattle.request.specs.declared.HeadersFault.TheVariants.{Short, TooSmall, PastEnd}
 use Rattle.request.proofs.TooSmall.{headers-too-small}
 use Rattle.capture_marks.specs.Marks.{too_small, is_marked, marks_from, marks_of}
 use Rattle.capture_marks.specs.Exactly.{MarkedAt, MarksRise, ExactlyMarked}
 
 -- ---- one record
 
-small : (h : Headers) → too_small h ≡ true → h ≡ TooSmall
-small Short e = clash (cc)
-small TooSmall e = refl
-small PastEnd e = clash (cc)
-small (Length n) e = clash (cc)
+small : (h : Result ℕ HeadersFault) → too_small h ≡ true → h ≡ Err TooSmall
+small (Err Short) e = clash (cc)
+small (Err TooSmall) e = refl
+small (Err PastEnd) e = clash (cc)
+small (Ok n) e = clash (cc)
 
 module _ (body : List ℕ) where
   pub marked-cannot : is_marked body ≡ true → CannotBe body

@@ -3,69 +3,55 @@
 #![tactic(auto)]
 
 ghost use Rattle.std.specs.Prelude.{◌≡◌, ◌≤◌, ◌+◌, length};
+ghost use Rattle.refusals.specs.Refused.{numbered};
 ghost use Rattle.wire.specs.Over.{overwrite};
 ghost use Rattle.capture_marks.specs.Marks.{is_marked, mark_of, marks_of, counted_of, marks_in, slots_after};
 
-use refusals::{BUFFER_TOO_SHORT, KIND_WRONG, RECORD_CUT};
-use request::Headers;
+use refusals::Refusal;
+use request::HeadersFault;
 use script::Found;
 
 // The kind of a capture's records: each is the body of one request.
 pub const REQUEST_BODY: u16 = 0x0021;
 
-// How many records are marked, or a refusal, which leaves the slots.
-#[derive(Clone, Copy)]
-pub enum Marked {
-    Count(usize),
-    Refused(u8),
-}
-
-// The numbers of the marked records, rising, in the first of the lent slots. Records are numbered from 0.
-pub fn marks(capture: &[u8], out: &mut [u64]) -> Marked
-    ensures value { result ≡ marks_in capture.now (length out.old) }
+// How many records are marked. Their numbers stand in the first of the lent slots, rising; records are numbered from 0. A refusal
+// leaves the slots.
+pub fn marks(capture: &[u8], out: &mut [u64]) -> Result<usize, Refusal>
+    ensures value { numbered result ≡ marks_in capture.now (length out.old) }
     ensures out_after { out.new ≡ slots_after capture.now out.old }
 {
-    match count_marks(capture) {
-        Marked::Refused(number) => Marked::Refused(number),
-        Marked::Count(count) => {
-            if out.len() < count {
-                return Marked::Refused(BUFFER_TOO_SHORT);
-            }
-            put_marks(capture, out, count);
-            Marked::Count(count)
-        }
+    let count = count_marks(capture)?;
+    if out.len() < count {
+        return Err(Refusal::BufferTooShort);
     }
+    put_marks(capture, out, count);
+    Ok(count)
 }
 
 // Whether the headers length of a body cannot be.
 fn is_marked(body: &[u8]) -> bool
     ensures { result ≡ is_marked body.now }
 {
-    match request::all_headers(body) {
-        Headers::Short => false,
-        Headers::TooSmall => true,
-        Headers::PastEnd => false,
-        Headers::Length(_) => false,
-    }
+    request::all_headers(body) == Err(HeadersFault::TooSmall)
 }
 
 // How many records are marked, or the capture's refusal: one pass, before anything is written.
-fn count_marks(capture: &[u8]) -> Marked
-    ensures { result ≡ counted_of capture.now }
+fn count_marks(capture: &[u8]) -> Result<usize, Refusal>
+    ensures { numbered result ≡ counted_of capture.now }
 {
     let mut at: usize = 0;
     let mut count: usize = 0;
     loop {
         match script::record_at(capture, at) {
             Found::Cut => {
-                return Marked::Refused(RECORD_CUT);
+                return Err(Refusal::RecordCut);
             }
             Found::End => {
-                return Marked::Count(count);
+                return Ok(count);
             }
             Found::Record { kind, start, len } => {
                 if kind != REQUEST_BODY {
-                    return Marked::Refused(KIND_WRONG);
+                    return Err(Refusal::KindWrong);
                 }
                 at = start + len;
                 if is_marked(&capture[start..at]) {

@@ -5,6 +5,7 @@ use Prim.Native.Nat.{ℕ, ◌+◌, ◌%◌, ◌^◌, ◌<◌, ◌≤◌}
 use native.Mathlib.Nat.{mod-eq_of_lt, zero-add}
 use native.Mathlib.Omega.{arith}
 use lib.ListN.{length, length-append}
+use Rattle.std.specs.Prelude.{Some, Ok}
 use borrow.Author.Tests.{le-ltb}
 use Rattle.wire.specs.Le.{le_at, le}
 use Rattle.wire.specs.Be.{first, be_at, be}
@@ -12,9 +13,7 @@ use Rattle.wire.proofs.Le.{le-back}
 use Rattle.wire.proofs.Be.{length-be}
 use Rattle.packet.specs.declared.PacketType.{PacketType}
 use Rattle.packet.specs.declared.PacketType.TheVariants.{SqlBatch, FedAuthToken, PreLogin, TabularResult, Attention, Login7, RpcRequest, TransactionManager}
-use Rattle.packet.specs.declared.KnownType.TheVariants.{Known}
 use Rattle.packet.specs.declared.PacketHeader.{PacketHeader}
-use Rattle.packet.specs.declared.Parsed.TheVariants.{Header}
 use Rattle.packet.specs.Types.{byte_of, type_of, types, type_in}
 use Rattle.packet.specs.Header.{new_header, parsed_of, header_bytes}
 use Rattle.packet.specs.Reply.{packet_of}
@@ -36,7 +35,7 @@ pub be-exact : (k v : ℕ) (rest : List ℕ) → v < 256 ^ k → be_at k (be k v
 be-exact k v rest h = be-back k v rest ∙ mod-eq_of_lt h
 
 -- a type's byte stands for it
-pub type-back : (t : PacketType) → type_of (byte_of t % 256) ≡ Known t
+pub type-back : (t : PacketType) → type_of (byte_of t % 256) ≡ Some t
 unfolding type_of types type_in
 type-back SqlBatch = refl
 type-back FedAuthToken = refl
@@ -49,7 +48,7 @@ type-back TransactionManager = refl
 
 pub header-back : (h : PacketHeader) (rest : List ℕ)
     → h.status.0 < 256 → h.length < 65536 → h.spid < 65536 → h.packet_id < 256 → h.window < 256
-    → parsed_of (header_bytes h ++ rest) ≡ Header h
+    → parsed_of (header_bytes h ++ rest) ≡ Ok h
 unfolding parsed_of header_bytes le be le_at
 header-back h rest hs hl hd hi hw =
     let long : 8 ≤ length (header_bytes h ++ rest) = omega (arith, length-append (header_bytes h) rest, length-header h) in
@@ -59,7 +58,7 @@ header-back h rest hs hl hd hi hw =
 
 -- of a packet that its length field can count
 pub reply-back : (payload : List ℕ) → 8 + length payload < 65536
-    → parsed_of (packet_of payload) ≡ Header (new_header TabularResult (8 + length payload) 1)
+    → parsed_of (packet_of payload) ≡ Ok (new_header TabularResult (8 + length payload) 1)
 unfolding packet_of
 reply-back payload h =
     rw (sym (reply-header (8 + length payload)))

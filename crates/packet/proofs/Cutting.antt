@@ -15,7 +15,7 @@ use Rattle.wire.proofs.Over.{then, wrote_as, drop-over, length_over, over-eq, wr
 use Rattle.packet.specs.Header.{header_bytes}
 use Rattle.packet.specs.Cut.{part_header, part_bytes, cut_from, packets_of}
 use Rattle.packet.specs.Agreed.{packet_count, packets_length, whole_packets, held_payload, cut_answer, cut_buffer}
-use Rattle.packet.specs.declared.InPlace.TheVariants.{Cut, NoRoom}
+use Rattle.std.specs.Prelude.{Some, None}
 use Rattle.packet.specs.Inner.{Stands}
 use Rattle.packet.proofs.Sizes.{length-header}
 use Rattle.packet.proofs.Counts.{length_part, count_none, count-one, count-more, cut-turn, length-packets}
@@ -132,11 +132,11 @@ held_none room total buf place number h = let z : total - place ≡ 0 = omega ar
 
 module _ (size n : ℕ) (buf : List ℕ) where
   -- no room for payload, or not for all packets
-  pub no_room : size ≤ 8 → (NoRoom ≡ cut_answer size n (length buf)) × (buf ≡ cut_buffer size n buf)
+  pub no_room : size ≤ 8 → (None ≡ cut_answer size n (length buf)) × (buf ≡ cut_buffer size n buf)
   unfolding cut_answer cut_buffer
   no_room h = let f : leb 9 size ≡ false = lt-leb 9 size (omega arith) in (rw f, rw f)
 
-  pub too_short : 9 ≤ size → length buf < packets_length size n → (NoRoom ≡ cut_answer size n (length buf)) × (buf ≡ cut_buffer size n buf)
+  pub too_short : 9 ≤ size → length buf < packets_length size n → (None ≡ cut_answer size n (length buf)) × (buf ≡ cut_buffer size n buf)
   unfolding cut_answer cut_buffer
   too_short some h =
       let t : leb 9 size ≡ true = le-leb 9 size some in
@@ -176,14 +176,14 @@ module _ (size n : ℕ) (buf : List ℕ) where
     cut-long = length-packets size (held_payload size n buf) some ∙ ap (packets_length size) held-size
 
     pub cut-done : {k : List ℕ} {to : ℕ} → Wrote buf 0 (held_left (size - 8) total buf (total - n) 1) k to
-        → (Cut to ≡ cut_answer size n (length buf)) × (k ≡ cut_buffer size n buf)
+        → (Some to ≡ cut_answer size n (length buf)) × (k ≡ cut_buffer size n buf)
     unfolding cut_answer cut_buffer
     cut-done {to = to} w =
         let v = wrote_as w held_all in
         let t : leb 9 size ≡ true = le-leb 9 size some in
         let f : leb (packets_length size n) (length buf) ≡ true = le-leb (packets_length size n) (length buf) (omega arith) in
         let long : to ≡ packets_length size n = omega (arith, v.1.place, cut-long) in
-        (rw (t, f) (ap Cut long), rw (t, f) v.0)
+        (rw (t, f) (ap Some long), rw (t, f) v.0)
 
 -- a payload that was written where it is to stand, and cut: its packets are written
 module _ (size : ℕ) (payload buf : List ℕ) (some : 9 ≤ size) (fits : packets_length size (length payload) ≤ length buf) where

@@ -1,9 +1,7 @@
 -- The packet sizes that can be agreed at login, how many packets of a size a payload becomes, and what is left of a buffer in
 -- which a payload was cut (document 02, 2026-02, 'Packets of the agreed size'). Rests on Cut.
-use Rattle.std.specs.Prelude.{ℕ, zero, suc, ◌+◌, ◌-◌, ◌*◌, ◌/◌, ◌≤◌, ◌≡◌, Bool, cond, ◌&&◌, List, [], leb, length, take, drop}
+use Rattle.std.specs.Prelude.{ℕ, zero, suc, ◌+◌, ◌-◌, ◌*◌, ◌/◌, ◌≤◌, ◌≡◌, Bool, cond, ◌&&◌, List, [], leb, length, take, drop, Option, Some, None}
 use Rattle.wire.specs.Over.{overwrite}
-use Rattle.packet.specs.declared.InPlace.{InPlace}
-use Rattle.packet.specs.declared.InPlace.TheVariants as in_place
 use Rattle.packet.specs.Cut.{packets_of}
 
 -- a size that can be agreed: 512 to 32,767 bytes, header included
@@ -40,8 +38,8 @@ abbrev pub can_cut : ℕ → ℕ → ℕ → Bool
 can_cut size n lent = leb 9 size && leb (packets_length size n) lent
 
 -- what cutting it there comes to: the length of the packets, or no room
-unfoldable pub cut_answer : ℕ → ℕ → ℕ → InPlace
-cut_answer size n lent = cond (can_cut size n lent) (in_place.Cut (packets_length size n)) in_place.NoRoom
+unfoldable pub cut_answer : ℕ → ℕ → ℕ → Option ℕ
+cut_answer size n lent = cond (can_cut size n lent) (Some (packets_length size n)) None
 
 -- a buffer in which a payload was cut: the packets at its front; without room for them, the buffer as it was
 unfoldable pub cut_buffer : ℕ → ℕ → List ℕ → List ℕ

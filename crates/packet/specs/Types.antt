@@ -1,9 +1,7 @@
 -- The type byte of a packet header (MS-TDS 2.2.3.1.1; the types of the Rust's `PacketType`). Rests on nothing.
-use Rattle.std.specs.Prelude.{ℕ, cond, List, [], ◌∷◌, eqb}
+use Rattle.std.specs.Prelude.{ℕ, cond, List, [], ◌∷◌, eqb, Option, Some, None}
 use Rattle.packet.specs.declared.PacketType.{PacketType}
 use Rattle.packet.specs.declared.PacketType.TheVariants.{SqlBatch, FedAuthToken, PreLogin, TabularResult, Attention, Login7, RpcRequest, TransactionManager}
-use Rattle.packet.specs.declared.KnownType.{KnownType}
-use Rattle.packet.specs.declared.KnownType.TheVariants.{Known, Unknown}
 
 -- the byte that stands for a packet type
 abbrev pub byte_of : PacketType → ℕ
@@ -21,10 +19,10 @@ unfoldable pub types : List PacketType
 types = SqlBatch ∷ FedAuthToken ∷ PreLogin ∷ TabularResult ∷ Attention ∷ Login7 ∷ RpcRequest ∷ TransactionManager ∷ []
 
 -- of some packet types the one that a byte stands for
-unfoldable pub type_in : List PacketType → ℕ → KnownType
-type_in [] b = Unknown
-type_in (t ∷ ts) b = cond (eqb b (byte_of t)) (Known t) (type_in ts b)
+unfoldable pub type_in : List PacketType → ℕ → Option PacketType
+type_in [] b = None
+type_in (t ∷ ts) b = cond (eqb b (byte_of t)) (Some t) (type_in ts b)
 
 -- the packet type that a byte stands for
-unfoldable pub type_of : ℕ → KnownType
+unfoldable pub type_of : ℕ → Option PacketType
 type_of b = type_in types b

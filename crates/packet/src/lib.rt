@@ -3,7 +3,9 @@
 // `PacketStatus`, `PacketHeader` and `wrap_in_packet` of the Rust.
 #![tactic(auto)]
 
-ghost use Rattle.std.specs.Prelude.{◌≡◌, cond, [], ◌∷◌, ◌+◌, ◌-◌, ◌≤◌, ◌<◌, min, length, take, drop};
+ghost use Rattle.std.specs.Prelude.{◌≡◌, cond, [], ◌∷◌, ◌+◌, ◌-◌, ◌≤◌, ◌<◌, min, length, take, drop, ok_or};
+ghost use Rattle.refusals.specs.Refused.{numbered};
+ghost use Rattle.refusals.specs.declared.Refusal.TheVariants.{UnknownPacketType};
 ghost use Rattle.wire.specs.Over.{overwrite, PlaceAfter, Wrote};
 ghost use Rattle.packet.specs.Types.{byte_of, type_of};
 ghost use Rattle.packet.specs.Status.{has_bit};
@@ -13,26 +15,20 @@ ghost use Rattle.packet.specs.Cut.{part_header, part_bytes, cut_from};
 ghost use Rattle.packet.specs.Agreed.{is_packet_size, packet_count, packets_length, whole_packets, cut_answer, cut_buffer};
 ghost use Rattle.packet.specs.Inner.{Stands};
 
-use refusals::{HEADER_TOO_SHORT, UNKNOWN_PACKET_TYPE};
+use refusals::Refusal;
 
 pub const PACKET_HEADER_SIZE: usize = 8;
 
-#[derive(Clone, Copy)]
+#[derive(Clone, Copy, Debug, PartialEq, Eq)]
 pub enum PacketType {
-    SqlBatch,
-    FedAuthToken,
-    PreLogin,
-    TabularResult,
-    Attention,
-    Login7,
-    RpcRequest,
-    TransactionManager,
-}
-
-#[derive(Clone, Copy)]
-pub enum KnownType {
-    Known(PacketType),
-    Unknown,
+    SqlBatch = 0x01,
+    FedAuthToken = 0x08,
+    PreLogin = 0x12,
+    TabularResult = 0x04,
+    Attention = 0x06,
+    Login7 = 0x10,
+    RpcRequest = 0x03,
+    TransactionManager = 0x0E,
 }
 
 impl PacketType {
@@ -40,38 +36,33 @@ impl PacketType {
     pub fn byte(self) -> u8
         ensures { result ≡ byte_of self }
     {
-        match self {
-            PacketType::SqlBatch => 0x01,
-            PacketType::FedAuthToken => 0x08,
-            PacketType::PreLogin => 0x12,
-            PacketType::TabularResult => 0x04,
-            PacketType::Attention => 0x06,
-            PacketType::Login7 => 0x10,
-            PacketType::RpcRequest => 0x03,
-            PacketType::TransactionManager => 0x0E,
-        }
+        self as u8
     }
+}
+
+impl TryFrom<u8> for PacketType {
+    type Error = Refusal;
+
+    ghost try_from_gives = { λ b r. r ≡ ok_or (type_of b) UnknownPacketType };
 
     // The packet type that a byte stands for.
-    pub fn try_from(value: u8) -> KnownType
-        ensures { result ≡ type_of value }
-    {
+    fn try_from(value: u8) -> Result<Self, Refusal> {
         match value {
-            0x01 => KnownType::Known(PacketType::SqlBatch),
-            0x08 => KnownType::Known(PacketType::FedAuthToken),
-            0x12 => KnownType::Known(PacketType::PreLogin),
-            0x04 => KnownType::Known(PacketType::TabularResult),
-            0x06 => KnownType::Known(PacketType::Attention),
-            0x10 => KnownType::Known(PacketType::Login7),
-            0x03 => KnownType::Known(PacketType::RpcRequest),
-            0x0E => KnownType::Known(PacketType::TransactionManager),
-            _ => KnownType::Unknown,
+            0x01 => Ok(PacketType::SqlBatch),
+            0x08 => Ok(PacketType::FedAuthToken),
+            0x12 => Ok(PacketType::PreLogin),
+            0x04 => Ok(PacketType::TabularResult),
+            0x06 => Ok(PacketType::Attention),
+            0x10 => Ok(PacketType::Login7),
+            0x03 => Ok(PacketType::RpcRequest),
+            0x0E => Ok(PacketType::TransactionManager),
+            _ => Err(Refusal::UnknownPacketType),
         }
     }
 }
 
 // The status byte, kept with all its bits, of which two are tested.
-#[derive(Clone, Copy)]
+#[derive(Clone, Copy, Debug, PartialEq, Eq)]
 pub struct PacketStatus(pub u8);
 
 impl PacketStatus {
@@ -104,7 +95,7 @@ impl PacketStatus {
     }
 }
 
-#[derive(Clone, Copy)]
+#[derive(Clone, Copy, Debug, PartialEq, Eq)]
 pub struct PacketHeader {
     pub packet_type: PacketType,
     pub status: PacketStatus,
@@ -112,12 +103,6 @@ pub struct PacketHeader {
     pub spid: u16,
     pub packet_id: u8,
     pub window: u8,
-}
-
-#[derive(Clone, Copy)]
-pub enum Parsed {
-    Header(PacketHeader),
-    Refused(u8),
 }
 
 impl PacketHeader {
@@ -135,23 +120,20 @@ impl PacketHeader {
     }
 
     // The header at the front of some bytes.
-    pub fn parse(buf: &[u8]) -> Parsed
-        ensures { result ≡ parsed_of buf.now }
+    pub fn parse(buf: &[u8]) -> Result<PacketHeader, Refusal>
+        ensures { numbered result ≡ parsed_of buf.now }
     {
         if buf.len() < PACKET_HEADER_SIZE {
-            return Parsed::Refused(HEADER_TOO_SHORT);
+            return Err(Refusal::HeaderTooShort);
         }
-        match PacketType::try_from(buf[0]) {
-            KnownType::Known(packet_type) => Parsed::Header(PacketHeader {
-                packet_type,
-                status: PacketStatus(buf[1]),
-                length: wire::get_u16(buf, 2),
-                spid: wire::get_u16(buf, 4),
-                packet_id: buf[6],
-                window: buf[7],
-            }),
-            KnownType::Unknown => Parsed::Refused(UNKNOWN_PACKET_TYPE),
-        }
+        Ok(PacketHeader {
+            packet_type: PacketType::try_from(buf[0])?,
+            status: PacketStatus(buf[1]),
+            length: wire::get_u16(buf, 2),
+            spid: wire::get_u16(buf, 4),
+            packet_id: buf[6],
+            window: buf[7],
+        })
     }
 
     // The header's eight bytes at a place of a lent buffer; the answer is the place after them.
@@ -327,29 +309,22 @@ fn move_parts(buf: &mut [u8], room: usize, from: usize, total: usize) -> usize
     at
 }
 
-// What cutting a payload where it stands comes to: the length of its packets, or no room for them.
-#[derive(Clone, Copy)]
-pub enum InPlace {
-    Cut(usize),
-    NoRoom,
-}
-
 // A payload of n bytes cut where it stands, into packets at the buffer's front: it begins after eight bytes for each of them, so
-// that it ends where they do. Where they have no room, nothing is cut.
-pub fn cut_in_place(buf: &mut [u8], size: u16, n: u16) -> InPlace
+// that it ends where they do. The answer is the packets' length; where they have no room, nothing is cut.
+pub fn cut_in_place(buf: &mut [u8], size: u16, n: u16) -> Option<usize>
     ensures value { result ≡ cut_answer size n (length buf.old) }
     ensures buf_after { buf.new ≡ cut_buffer size n buf.old }
 {
     if size <= 8 {
-        return InPlace::NoRoom;
+        return None;
     }
     let total = packets_length(size, n);
     if buf.len() < total {
-        return InPlace::NoRoom;
+        return None;
     }
     let room = size as usize - 8;
     let from = total - n as usize;
-    InPlace::Cut(move_parts(buf, room, from, total))
+    Some(move_parts(buf, room, from, total))
 }
 
 // A packet with its payload.

@@ -13,8 +13,7 @@ use borrow.Author.Tests.{le-leb, lt-leb}
 use Rattle.wire.specs.Le.{le_at}
 use Rattle.wire.proofs.Le.{le_join, le-one}
 use Rattle.payload.specs.declared.frames.Frame.{Frame}
-use Rattle.payload.specs.declared.frames.Reached.TheVariants as reached
-use Rattle.payload.specs.declared.NumberRead.TheVariants as number
+use Rattle.std.specs.Prelude.{Ok, Err}
 use Rattle.payload.specs.Places.{whole, number_at}
 use Rattle.payload.specs.Answers.{number_read}
 use Rattle.payload.specs.Frames.{lies, source_from, reach_of}
@@ -69,7 +68,7 @@ pub record Across (l : List ℕ) (f : Frame) (at k : ℕ) (here : Frame) (n i : 
   pub fits : at + i < 2 ^ 64
 
 -- from a frame that the lent bytes do not have there are none
-pub across-nowhere : (l : List ℕ) (f : Frame) (at k : ℕ) → lies l f ≡ false → 1 ≤ k → number.Refused 24 ≡ number_read (number_at k (source_from l f) at whole)
+pub across-nowhere : (l : List ℕ) (f : Frame) (at k : ℕ) → lies l f ≡ false → 1 ≤ k → Err 24 ≡ number_read (number_at k (source_from l f) at whole)
 across-nowhere l f at k e o = rw (nothing-there l f 0 e) (number_cut k (record { bytes = []; stop = 24 }) at (lt-leb (at + k) 0 (omega arith)))
 
 pub across-begins : (l : List ℕ) (f : Frame) (at k : ℕ) → lies l f ≡ true → at < 2 ^ 64 → Across l f at k f 0 0
@@ -77,14 +76,14 @@ across-begins l f at k e h = record { lies = e; summed = begin (source_from l f)
 
 module _ {l : List ℕ} {f here : Frame} {at k n i : ℕ} (a : Across l f at k here n i) where
   -- the payload ends before the next one
-  pub across-past : {r : ℕ} → i < k → reach_of l here (at + i + 1) ≡ reached.Past r → number.Refused r ≡ number_read (number_at k (source_from l f) at whole)
+  pub across-past : {r : ℕ} → i < k → reach_of l here (at + i + 1) ≡ Err r → Err r ≡ number_read (number_at k (source_from l f) at whole)
   across-past h q =
       let p = reach-past l here (at + i + 1) q in
       let short : length (source_from l f).bytes < at + k = omega (arith, p.0, a.same.size) in
-      ap number.Refused (p.1 ∙ sym a.same.stops) ∙ number_cut k (source_from l f) at (lt-leb (at + k) (length (source_from l f).bytes) short)
+      ap Err (p.1 ∙ sym a.same.stops) ∙ number_cut k (source_from l f) at (lt-leb (at + k) (length (source_from l f).bytes) short)
 
   -- the next one stands in a packet
-  module _ {g : Frame} (h : i < k) (q : reach_of l here (at + i + 1) ≡ reached.In g) where
+  module _ {g : Frame} (h : i < k) (q : reach_of l here (at + i + 1) ≡ Ok g) where
     next-held : at + i < length (source_from l f).bytes
     next-held = omega (arith, (reach-long l here (at + i + 1) q).0, a.same.size)
 
@@ -113,7 +112,7 @@ module _ {l : List ℕ} {f here : Frame} {at k n i : ℕ} (a : Across l f at k h
           let p : 256 ^ (i + 1) ≤ 256 ^ 8 = let j : i + 1 ≤ 8 = omega arith in pow-le-pow_right (omega arith) j in
           lt_of_lt_of_le next-summed.below p
 
-  pub across-ends : 1 ≤ k → k ≤ i → (number.Whole (record { value = n; next = at + k }) ≡ number_read (number_at k (source_from l f) at whole)) × (n < 256 ^ k)
+  pub across-ends : 1 ≤ k → k ≤ i → (Ok (record { value = n; next = at + k }) ≡ number_read (number_at k (source_from l f) at whole)) × (n < 256 ^ k)
   across-ends o h =
       let e : i ≡ k = omega (arith, a.summed.within) in
       let long : at + k ≤ length (source_from l f).bytes = omega (arith, a.summed.held (omega arith)) in

@@ -11,12 +11,11 @@ use borrow.Author.Tests.{le-leb, lt-leb, eq-eqb, ne_eqb, eqb-true}
 use Rattle.wire.proofs.Cases.{split, clash}
 use Rattle.wire.specs.Le.{le_at}
 use Rattle.wire.specs.declared.Part.{Part}
+use Rattle.std.specs.Prelude.{Result, Ok, Err}
+use Rattle.refusals.specs.declared.Refusal.{Refusal}
+use Rattle.refusals.specs.Refused.{number, numbered}
 use Rattle.payload.specs.declared.NumberAt.{NumberAt}
-use Rattle.payload.specs.declared.NumberRead.{NumberRead}
-use Rattle.payload.specs.declared.NumberRead.TheVariants as number
 use Rattle.payload.specs.declared.PartAt.{PartAt}
-use Rattle.payload.specs.declared.PartRead.{PartRead}
-use Rattle.payload.specs.declared.PartRead.TheVariants as part
 use Rattle.payload.specs.Places.{Source, Place, Read, whole, refused, number_at, part_at, must, then}
 use Rattle.payload.specs.Answers.{number_read, part_read, Below}
 
@@ -98,64 +97,76 @@ eighths e k len h =
     (λ l. let q : (len - e) / 8 < k = omega arith in rw (lt-leb k ((len - e) / 8) q, lt-leb (e + 8 * k) len l))
 
 pub number-stands : (k : ℕ) (src : Source) (at : ℕ) {n : ℕ} → leb (at + k) (length src.bytes) ≡ true → n ≡ le_at k (drop at src.bytes)
-    → number.Whole (record { value = n; next = at + k }) ≡ number_read (number_at k src at whole)
+    → Ok (record { value = n; next = at + k }) ≡ number_read (number_at k src at whole)
 unfolding number_at
 number-stands k src at h e = rw (h, e)
 
-pub number_cut : (k : ℕ) (src : Source) (at : ℕ) → leb (at + k) (length src.bytes) ≡ false → number.Refused src.stop ≡ number_read (number_at k src at whole)
+pub number_cut : (k : ℕ) (src : Source) (at : ℕ) → leb (at + k) (length src.bytes) ≡ false → Err src.stop ≡ number_read (number_at k src at whole)
 unfolding number_at
 number_cut k src at h = rw h
 
 pub part-stands : (n : ℕ) (src : Source) (at : ℕ) → leb (at + n) (length src.bytes) ≡ true
-    → part.Whole (record { part = record { start = at; len = n }; next = at + n }) ≡ part_read (part_at n src at whole)
+    → Ok (record { part = record { start = at; len = n }; next = at + n }) ≡ part_read (part_at n src at whole)
 unfolding part_at
 part-stands n src at h = rw h
 
-pub part_cut : (n : ℕ) (src : Source) (at : ℕ) → leb (at + n) (length src.bytes) ≡ false → part.Refused src.stop ≡ part_read (part_at n src at whole)
+pub part_cut : (n : ℕ) (src : Source) (at : ℕ) → leb (at + n) (length src.bytes) ≡ false → Err src.stop ≡ part_read (part_at n src at whole)
 unfolding part_at
 part_cut n src at h = rw h
 
 -- a number that was read is as small as its bytes
-pub below : (k : ℕ) {r : NumberRead} {n : NumberAt} → Below k r → r ≡ number.Whole n → n.value < 256 ^ k
+pub below : (k : ℕ) {r : Result NumberAt Refusal} {n : NumberAt} → Below k r → r ≡ Ok n → n.value < 256 ^ k
 below k h e = rw e at h
 
-pub below_more : (j k : ℕ) → j ≤ k → (r : NumberRead) → Below j r → Below k r
-below_more j k l (number.Whole n) h = lt_of_lt_of_le h (pow-le-pow_right (omega arith) l)
-below_more j k l (number.Refused r) h = tt
+pub below_more : (j k : ℕ) → j ≤ k → (r : Result NumberAt Refusal) → Below j r → Below k r
+below_more j k l (Ok n) h = lt_of_lt_of_le h (pow-le-pow_right (omega arith) l)
+below_more j k l (Err r) h = tt
 
 -- ---- what answers tell
 
-pub number_is : (x : Read ℕ) {r : NumberRead} {n : NumberAt} → r ≡ number_read x → r ≡ number.Whole n → x ≡ whole n.value n.next
-number_is (whole v to) {n = n} e f = let q : n ≡ record { value = v; next = to } = cc in rw q
-number_is (refused m) e f = clash (cc)
+pub number_is : (x : Read ℕ) {r : Result NumberAt Refusal} {n : NumberAt} → numbered r ≡ number_read x → r ≡ Ok n → x ≡ whole n.value n.next
+number_is x {n = n} e f = go x (rw f at e)
+  where
+    go : (x : Read ℕ) → Ok n ≡ number_read x → x ≡ whole n.value n.next
+    go (whole v to) e = let q : n ≡ record { value = v; next = to } = cc in rw q
+    go (refused m) e = clash (cc)
 
-pub number-is-not : (x : Read ℕ) {r : NumberRead} {m : ℕ} → r ≡ number_read x → r ≡ number.Refused m → x ≡ refused m
-number-is-not (whole v to) e f = clash (cc)
-number-is-not (refused n) e f = cc
+pub number-is-not : (x : Read ℕ) {r : Result NumberAt Refusal} {m : Refusal} → numbered r ≡ number_read x → r ≡ Err m → x ≡ refused (number m)
+number-is-not x {m = m} e f = go x (rw f at e)
+  where
+    go : (x : Read ℕ) → Err (number m) ≡ number_read x → x ≡ refused (number m)
+    go (whole v to) e = clash (cc)
+    go (refused n) e = cc
 
-pub part-is : (x : Read Part) {r : PartRead} {n : PartAt} → r ≡ part_read x → r ≡ part.Whole n → x ≡ whole n.part n.next
-part-is (whole v to) {n = n} e f = let q : n ≡ record { part = v; next = to } = cc in rw q
-part-is (refused m) e f = clash (cc)
+pub part-is : (x : Read Part) {r : Result PartAt Refusal} {n : PartAt} → numbered r ≡ part_read x → r ≡ Ok n → x ≡ whole n.part n.next
+part-is x {n = n} e f = go x (rw f at e)
+  where
+    go : (x : Read Part) → Ok n ≡ part_read x → x ≡ whole n.part n.next
+    go (whole v to) e = let q : n ≡ record { part = v; next = to } = cc in rw q
+    go (refused m) e = clash (cc)
 
-pub part-is-not : (x : Read Part) {r : PartRead} {m : ℕ} → r ≡ part_read x → r ≡ part.Refused m → x ≡ refused m
-part-is-not (whole v to) e f = clash (cc)
-part-is-not (refused n) e f = cc
+pub part-is-not : (x : Read Part) {r : Result PartAt Refusal} {m : Refusal} → numbered r ≡ part_read x → r ≡ Err m → x ≡ refused (number m)
+part-is-not x {m = m} e f = go x (rw f at e)
+  where
+    go : (x : Read Part) → Err (number m) ≡ part_read x → x ≡ refused (number m)
+    go (whole v to) e = clash (cc)
+    go (refused n) e = cc
 
 -- ---- a number and a part that were read, or not
 
 module _ {A : Type 0} where
-  pub number-got : (k : ℕ) (src : Source) (at : ℕ) (go : ℕ → Place → Read A) {r : NumberRead} {n : NumberAt}
-      → r ≡ number_read (number_at k src at whole) → r ≡ number.Whole n → number_at k src at go ≡ go n.value n.next
+  pub number-got : (k : ℕ) (src : Source) (at : ℕ) (go : ℕ → Place → Read A) {r : Result NumberAt Refusal} {n : NumberAt}
+      → numbered r ≡ number_read (number_at k src at whole) → r ≡ Ok n → number_at k src at go ≡ go n.value n.next
   number-got k src at go e f = number-then k src at go ∙ then-got go (number_is (number_at k src at whole) e f)
 
-  pub number-not : (k : ℕ) (src : Source) (at : ℕ) (go : ℕ → Place → Read A) {r : NumberRead} {m : ℕ}
-      → r ≡ number_read (number_at k src at whole) → r ≡ number.Refused m → number_at k src at go ≡ refused m
+  pub number-not : (k : ℕ) (src : Source) (at : ℕ) (go : ℕ → Place → Read A) {r : Result NumberAt Refusal} {m : Refusal}
+      → numbered r ≡ number_read (number_at k src at whole) → r ≡ Err m → number_at k src at go ≡ refused (number m)
   number-not k src at go e f = number-then k src at go ∙ then-not go (number-is-not (number_at k src at whole) e f)
 
-  pub part-got : (n : ℕ) (src : Source) (at : ℕ) (go : Part → Place → Read A) {r : PartRead} {v : PartAt}
-      → r ≡ part_read (part_at n src at whole) → r ≡ part.Whole v → part_at n src at go ≡ go v.part v.next
+  pub part-got : (n : ℕ) (src : Source) (at : ℕ) (go : Part → Place → Read A) {r : Result PartAt Refusal} {v : PartAt}
+      → numbered r ≡ part_read (part_at n src at whole) → r ≡ Ok v → part_at n src at go ≡ go v.part v.next
   part-got n src at go e f = part_then n src at go ∙ then-got go (part-is (part_at n src at whole) e f)
 
-  pub part-not : (n : ℕ) (src : Source) (at : ℕ) (go : Part → Place → Read A) {r : PartRead} {m : ℕ}
-      → r ≡ part_read (part_at n src at whole) → r ≡ part.Refused m → part_at n src at go ≡ refused m
+  pub part-not : (n : ℕ) (src : Source) (at : ℕ) (go : Part → Place → Read A) {r : Result PartAt Refusal} {m : Refusal}
+      → numbered r ≡ part_read (part_at n src at whole) → r ≡ Err m → part_at n src at go ≡ refused (number m)
   part-not n src at go e f = part_then n src at go ∙ then-not go (part-is-not (part_at n src at whole) e f)

@@ -11,13 +11,12 @@ use Rattle.wire.proofs.Cases.{split}
 use Rattle.wire.specs.Le.{le}
 use Rattle.wire.specs.Be.{be}
 use Rattle.packet.specs.declared.PacketHeader.{PacketHeader}
-use Rattle.packet.specs.declared.Parsed.TheVariants.{Header}
 use Rattle.packet.specs.Status.{has_bit}
 use Rattle.packet.specs.Header.{parsed_of, header_bytes}
 use Rattle.packet.specs.Reply.{reply_header, packet_of}
 use Rattle.packet.proofs.Back.{header-back}
 use Rattle.packet.proofs.Sizes.{reply-header}
-use Rattle.payload.specs.declared.frames.Next.TheVariants as next
+use Rattle.std.specs.Prelude.{Ok}
 use Rattle.packet.specs.Cut.{part_header, part_bytes, cut_from, packets_of}
 use Rattle.payload.specs.Packets.{Packets, packet, stop, over, is_part, next_of, packets_from, packets_in, payload_of, stop_of}
 use Rattle.payload.proofs.Walk.{is-headed, is-packet, turn}
@@ -51,9 +50,9 @@ module _ (number : ℕ) (last : Bool) (p rest : List ℕ) where
   unfolding is_part
   is-part some = let n = long in rw (le-leb 9 (8 + length p) (omega arith), le-leb (8 + length p) (length whole) (omega arith))
 
-  is-next : 1 ≤ length p → 8 + length p < 65536 → next_of number false whole ≡ next.Packet (length p) last
+  is-next : 1 ≤ length p → 8 + length p < 65536 → next_of number false whole ≡ Ok (record { len = length p; last = last })
   is-next some short =
-      let e : parsed_of whole ≡ Header h = header-back h (p ++ rest) (status< last) short (omega arith) (omega arith) (omega arith) in
+      let e : parsed_of whole ≡ Ok h = header-back h (p ++ rest) (status< last) short (omega arith) (omega arith) (omega arith) in
       let m : 8 + length p - 8 ≡ length p = omega arith in
       let n = long in
       is-headed whole 0 number (omega arith) refl ∙ is-packet number (length whole) e (is-part some) refl ∙ rw (m, status-is last)

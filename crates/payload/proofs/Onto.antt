@@ -1,7 +1,7 @@
 -- From one packet to the next: what the walk finds after a frame, and that what is read from there on is the same. Assumes nothing.
 use mathlib.Core.Path.{◌≡◌, refl, sym, ap, ◌∙◌}
 use mathlib.Core.List.{List, [], ◌∷◌, ◌++◌, append-nil}
-use mathlib.Core.Bool.{Bool, true, false}
+use mathlib.Core.Bool.{true, false}
 use Prim.Native.Nat.{ℕ, ◌+◌, ◌-◌, ◌*◌, ◌≤◌, ◌<◌}
 use native.Mathlib.Omega.{arith}
 use lib.ListN.{length, take, drop, length-append, length-drop}
@@ -9,15 +9,14 @@ use lib.Seq.{drop-append-le, drop-drop, length-take-le, take_all, drop-length}
 use borrow.Author.Tests.{le-leb, leb-true}
 use Rattle.payload.specs.declared.frames.Frame.{Frame}
 use Rattle.payload.specs.declared.frames.Next.{Next}
-use Rattle.payload.specs.declared.frames.Next.TheVariants as next
-use Rattle.payload.specs.declared.frames.Moved.{Moved}
-use Rattle.payload.specs.declared.frames.Moved.TheVariants as moved
-use Rattle.payload.specs.Packets.{Packets, packet, stop, bad, broken, over, next_of, packets_from, packets_in, payload_of, stop_of, refusal_at, source_of}
+use Rattle.payload.specs.declared.frames.Stop as code
+use Rattle.std.specs.Prelude.{Result, Ok, Err}
+use Rattle.payload.specs.Stopped.{stop_by, stopped}
+use Rattle.payload.specs.Packets.{Packets, packet, stop, Stop, bad, next_of, packets_from, packets_in, payload_of, stop_of, refusal_at, source_of}
 use Rattle.payload.specs.Places.{Source, body_source}
 use Rattle.payload.specs.Frames.{lies, beyond, source_from, body_frame, framed, first_of, moved_of}
 use Rattle.payload.proofs.Sources.{Same, same_at, drop-take}
-use Rattle.payload.proofs.Walk.{fits, turn, begins, none_lent}
-use Rattle.payload.proofs.Walk as walk
+use Rattle.payload.proofs.Walk.{fits, turn, stops, begins, none_lent}
 
 -- the payload of a frame's packet
 abbrev pub here : List ℕ → Frame → List ℕ
@@ -67,41 +66,37 @@ pub record Onto (l : List ℕ) (f g : Frame) : Type 0 where
   pub size : length (here l g) ≡ g.end - g.base
   pub is : beyond l f ≡ packet (here l g) g.last (beyond l g)
 
-pub data After (l : List ℕ) (f : Frame) : Moved → Type 0 where
-  goes : {g : Frame} → Onto l f g → After l f (moved.To g)
-  overs : beyond l f ≡ stop over → After l f moved.Over
-  breaks : beyond l f ≡ stop broken → After l f moved.Broken
-  bads : {r : ℕ} → beyond l f ≡ stop (bad r) → After l f (moved.Bad r)
+pub data After (l : List ℕ) (f : Frame) : Result Frame Stop → Type 0 where
+  goes : {g : Frame} → Onto l f g → After l f (Ok g)
+  ends : {s : Stop} → beyond l f ≡ stop s → After l f (Err s)
 
 module _ (l : List ℕ) (f : Frame) (e : lies l f ≡ true) where
   abbrev rest : List ℕ
   rest = drop (f.end + 8 * f.number) l
 
-  onto : {n : ℕ} {last : Bool} → next_of (f.number + 1) f.last rest ≡ next.Packet n last
-      → Onto l f (record { base = f.end; end = f.end + n; number = f.number + 1; last = last })
+  onto : {p : Next} → next_of (f.number + 1) f.last rest ≡ Ok p
+      → Onto l f (record { base = f.end; end = f.end + p.len; number = f.number + 1; last = p.last })
   unfolding beyond lies
-  onto {n} {last} q =
+  onto {p} q =
       let m = fits (f.number + 1) f.last rest q in
       let d = length-drop (f.end + 8 * f.number) l in
-      let w : f.end + n + 8 * (f.number + 1) ≤ length l = omega (arith, lying l f e, m.1) in
+      let w : f.end + p.len + 8 * (f.number + 1) ≤ length l = omega (arith, lying l f e, m.1) in
       let a : f.end + 8 * f.number + 8 ≡ f.end + 8 * (f.number + 1) = omega arith in
-      let b : f.end + n - f.end ≡ n = omega arith in
-      let g : f.end + 8 * f.number + (8 + n) ≡ f.end + n + 8 * (f.number + 1) = omega arith in
+      let b : f.end + p.len - f.end ≡ p.len = omega arith in
+      let g : f.end + 8 * f.number + (8 + p.len) ≡ f.end + p.len + 8 * (f.number + 1) = omega arith in
       record {
-        lies = le-leb (f.end + n + 8 * (f.number + 1)) (length l) w;
+        lies = le-leb (f.end + p.len + 8 * (f.number + 1)) (length l) w;
         base = refl;
         number = refl;
         some = omega (arith, m.0);
-        size = length-take-le (f.end + n - f.end) (drop (f.end + 8 * (f.number + 1)) l) (omega (arith, length-drop (f.end + 8 * (f.number + 1)) l));
-        is = turn (f.number + 1) f.last rest q ∙ rw (drop-drop 8 (f.end + 8 * f.number) l, drop-drop (8 + n) (f.end + 8 * f.number) l, a, b, g);
+        size = length-take-le (f.end + p.len - f.end) (drop (f.end + 8 * (f.number + 1)) l) (omega (arith, length-drop (f.end + 8 * (f.number + 1)) l));
+        is = turn (f.number + 1) f.last rest q ∙ rw (drop-drop 8 (f.end + 8 * f.number) l, drop-drop (8 + p.len) (f.end + 8 * f.number) l, a, b, g);
       }
 
-  pub after-by : (x : Next) → next_of (f.number + 1) f.last rest ≡ x → After l f (framed f.end (f.number + 1) x)
+  pub after-by : (x : Result Next Stop) → next_of (f.number + 1) f.last rest ≡ x → After l f (framed f.end (f.number + 1) x)
   unfolding beyond
-  after-by (next.Packet n last) q = goes (onto q)
-  after-by next.Over q = overs (walk.overs (f.number + 1) f.last rest q)
-  after-by next.Broken q = breaks (walk.breaks (f.number + 1) f.last rest q)
-  after-by (next.Bad r) q = bads (walk.bads (f.number + 1) f.last rest q)
+  after-by (Ok p) q = goes (onto q)
+  after-by (Err s) q = ends (stops (f.number + 1) f.last rest q)
 
   pub after : After l f (moved_of l f)
   unfolding moved_of
@@ -109,17 +104,19 @@ module _ (l : List ℕ) (f : Frame) (e : lies l f ≡ true) where
 
 -- what it tells
 module _ {l : List ℕ} {f : Frame} where
-  pub onto-of : {g : Frame} → After l f (moved.To g) → Onto l f g
+  pub onto-of : {g : Frame} → After l f (Ok g) → Onto l f g
   onto-of (goes o) = o
 
-  pub over-of : After l f moved.Over → beyond l f ≡ stop over
-  over-of (overs e) = e
+  pub end-of : {s : Stop} → After l f (Err s) → beyond l f ≡ stop s
+  end-of (ends e) = e
 
-  pub broken-of : After l f moved.Broken → beyond l f ≡ stop broken
-  broken-of (breaks e) = e
+-- the same of what the code answers
+module _ (l : List ℕ) (f : Frame) (e : lies l f ≡ true) {r : Result Frame code.Stop} (q : stopped r ≡ moved_of l f) where
+  pub onto-by : {g : Frame} → r ≡ Ok g → Onto l f g
+  onto-by t = onto-of (rw (sym q, t) at (after l f e))
 
-  pub bad-of : {r : ℕ} → After l f (moved.Bad r) → beyond l f ≡ stop (bad r)
-  bad-of (bads e) = e
+  pub end-by : {s : code.Stop} → r ≡ Err s → beyond l f ≡ stop (stop_by s)
+  end-by t = end-of (rw (sym q, t) at (after l f e))
 
 -- what is read from the next packet on is the same
 pub onto_same : {l : List ℕ} {f g : Frame} → lies l f ≡ true → Onto l f g → Same (source_from l f) (source_from l g) f.end
@@ -138,25 +135,24 @@ onto_same {l} {f} {g} e o =
     (source-stop l f e ∙ ap (λ (ps : Packets). refusal_at (stop_of ps)) o.is ∙ sym (source-stop l g o.lies))
 
 -- by what stands there
-pub moved_by_lem : (l : List ℕ) (f : Frame) {x : Next} → next_of (f.number + 1) f.last (drop (f.end + 8 * f.number) l) ≡ x → framed f.end (f.number + 1) x ≡ moved_of l f
+pub moved_by_lem : (l : List ℕ) (f : Frame) {x : Result Next Stop} → x ≡ next_of (f.number + 1) f.last (drop (f.end + 8 * f.number) l) → framed f.end (f.number + 1) x ≡ moved_of l f
 unfolding moved_of
 moved_by_lem l f e = rw e
 
-pub first-empty : (l : List ℕ) → length l ≡ 0 → moved.Bad 8 ≡ first_of l
+pub first-empty : (l : List ℕ) → length l ≡ 0 → Err (bad 8) ≡ first_of l
 unfolding first_of
 first-empty [] h = refl
 first-empty (b ∷ l) h = absurd (omega arith)
 
-pub first_some : (l : List ℕ) {x : Next} → (length l ≡ 0 → ⊥) → next_of 1 false l ≡ x → framed 0 1 x ≡ first_of l
+pub first_some : (l : List ℕ) {x : Result Next Stop} → (length l ≡ 0 → ⊥) → x ≡ next_of 1 false l → framed 0 1 x ≡ first_of l
 unfolding first_of
 first_some [] h e = absurd (h refl)
 first_some (b ∷ l) h e = rw e
 
-pub first-packet : (l : List ℕ) {n : ℕ} {last : Bool} → (length l ≡ 0 → ⊥) → next_of 1 false l ≡ next.Packet n last
-    → moved.To (record { base = 0; end = n; number = 1; last = last }) ≡ first_of l
-first-packet l {n} {last} h e =
-    let z : n ≡ 0 + n = omega arith in
-    ap (λ (k : ℕ). moved.To (record { base = 0; end = k; number = 1; last = last })) z ∙ first_some l h e
+pub first-packet : (l : List ℕ) {p : Next} → (length l ≡ 0 → ⊥) → Ok p ≡ next_of 1 false l → Ok (record { base = 0; end = p.len; number = 1; last = p.last }) ≡ first_of l
+first-packet l {p} h e =
+    let z : p.len ≡ 0 + p.len = omega arith in
+    ap (λ (n : ℕ). Ok (record { base = 0; end = n; number = 1; last = p.last })) z ∙ first_some l h e
 
 -- ---- the first packet, and a request's body
 
@@ -168,48 +164,46 @@ pub record First (l : List ℕ) (f : Frame) : Type 0 where
   pub size : length (here l f) ≡ f.end - f.base
   pub is : packets_in l ≡ packet (here l f) f.last (beyond l f)
 
--- no packet begins the lent bytes
-pub data Begins (l : List ℕ) : Moved → Type 0 where
-  first : {f : Frame} → First l f → Begins l (moved.To f)
-  overs : packets_in l ≡ stop over → Begins l moved.Over
-  breaks : packets_in l ≡ stop broken → Begins l moved.Broken
-  bads : {r : ℕ} → packets_in l ≡ stop (bad r) → Begins l (moved.Bad r)
+-- what begins the lent bytes: a packet, or what stops them
+pub data Begins (l : List ℕ) : Result Frame Stop → Type 0 where
+  first : {f : Frame} → First l f → Begins l (Ok f)
+  none : {s : Stop} → packets_in l ≡ stop s → Begins l (Err s)
 
-first_by : (l : List ℕ) (x : Next) → 0 < length l → next_of 1 false l ≡ x → Begins l (framed 0 1 x)
+first_by : (l : List ℕ) (x : Result Next Stop) → 0 < length l → next_of 1 false l ≡ x → Begins l (framed 0 1 x)
 unfolding beyond lies
-first_by l (next.Packet n last) h q =
+first_by l (Ok p) h q =
     let m = fits 1 false l q in
-    let a : 0 + n - 0 ≡ n = omega arith in
-    let d : 8 + n ≡ 0 + n + 8 = omega arith in
-    first {f = record { base = 0; end = 0 + n; number = 1; last = last }} (record {
-      lies = le-leb (0 + n + 8) (length l) (omega (arith, m.1));
+    let a : 0 + p.len - 0 ≡ p.len = omega arith in
+    let d : 8 + p.len ≡ 0 + p.len + 8 = omega arith in
+    first {f = record { base = 0; end = 0 + p.len; number = 1; last = p.last }} (record {
+      lies = le-leb (0 + p.len + 8) (length l) (omega (arith, m.1));
       base = refl;
       number = refl;
       some = omega (arith, m.0);
-      size = length-take-le (0 + n - 0) (drop 8 l) (omega (arith, length-drop 8 l, m.1));
+      size = length-take-le (0 + p.len - 0) (drop 8 l) (omega (arith, length-drop 8 l, m.1));
       is = begins l h ∙ turn 1 false l q ∙ rw (a, d);
     })
-first_by l next.Over h q = overs (begins l h ∙ walk.overs 1 false l q)
-first_by l next.Broken h q = breaks (begins l h ∙ walk.breaks 1 false l q)
-first_by l (next.Bad r) h q = bads (begins l h ∙ walk.bads 1 false l q)
+first_by l (Err s) h q = none (begins l h ∙ stops 1 false l q)
 
 pub begun-by : (l : List ℕ) → Begins l (first_of l)
 unfolding first_of
-begun-by [] = bads (none_lent [] refl)
+begun-by [] = none (none_lent [] refl)
 begun-by (b ∷ l) = first_by (b ∷ l) (next_of 1 false (b ∷ l)) (omega arith) refl
 
 module _ {l : List ℕ} where
-  pub first-of : {f : Frame} → Begins l (moved.To f) → First l f
+  first-of : {f : Frame} → Begins l (Ok f) → First l f
   first-of (first o) = o
 
-  pub no-over : Begins l moved.Over → packets_in l ≡ stop over
-  no-over (overs e) = e
+  none-of : {s : Stop} → Begins l (Err s) → packets_in l ≡ stop s
+  none-of (none e) = e
 
-  pub no-broken : Begins l moved.Broken → packets_in l ≡ stop broken
-  no-broken (breaks e) = e
+-- the same of what the code answers
+module _ (l : List ℕ) {r : Result Frame code.Stop} (q : stopped r ≡ first_of l) where
+  pub first-is : {f : Frame} → r ≡ Ok f → First l f
+  first-is t = first-of (rw (sym q, t) at (begun-by l))
 
-  pub no-bad : {r : ℕ} → Begins l (moved.Bad r) → packets_in l ≡ stop (bad r)
-  no-bad (bads e) = e
+  pub none-is : {s : code.Stop} → r ≡ Err s → packets_in l ≡ stop (stop_by s)
+  none-is t = none-of (rw (sym q, t) at (begun-by l))
 
 -- from the first packet on stands the whole payload
 pub first-same : {l : List ℕ} {f : Frame} → First l f → Same (source_of (packets_in l)) (source_from l f) 0

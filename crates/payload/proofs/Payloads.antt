@@ -11,8 +11,7 @@ use lib.ListN.{length, length-append}
 use Rattle.wire.specs.Over.{overwrite}
 use Rattle.wire.proofs.Over.{over-cat, length_over}
 use Rattle.payload.specs.declared.frames.Frame.{Frame}
-use Rattle.payload.specs.declared.joining.Joined.{Joined}
-use Rattle.payload.specs.declared.joining.Joined.TheVariants.{Written, Refused}
+use Rattle.std.specs.Prelude.{Result, Ok, Err}
 use Rattle.payload.specs.Packets.{Packets, packet, stop, Stop, bad, broken, over, packets_in, payload_of, stop_of}
 use Rattle.payload.specs.Frames.{lies, beyond}
 use Rattle.payload.specs.Join.{joined_by, joined_of, joined_buffer}
@@ -57,7 +56,7 @@ unfolding payload_of stop_of
 measure-none l e = (ap stop_of e, ap (λ (ps : Packets). length (payload_of ps)) e)
 
 -- the answer by what stops them
-pub answered : (l : List ℕ) (room : ℕ) {s : Stop} {n : ℕ} {r : Joined} → r ≡ joined_by s n room
+pub answered : (l : List ℕ) (room : ℕ) {s : Stop} {n : ℕ} {r : Result ℕ ℕ} → r ≡ joined_by s n room
     → (stop_of (packets_in l) ≡ s) × (length (payload_of (packets_in l)) ≡ n) → r ≡ joined_of l room
 unfolding joined_of
 answered l room q m = rw (m.0, m.1) q
@@ -116,38 +115,38 @@ copy-none l buf e = sym (ap (λ (ps : Packets). overwrite buf 0 (payload_of ps))
 -- ---- the buffer
 
 module _ (l buf : List ℕ) where
-  pub left : {n : ℕ} → Refused n ≡ joined_of l (length buf) → buf ≡ joined_buffer l buf
+  pub left : {n : ℕ} → Err n ≡ joined_of l (length buf) → buf ≡ joined_buffer l buf
   unfolding joined_buffer
   left q = rw (sym q)
 
-  pub filled : {n : ℕ} {new : List ℕ} → Written n ≡ joined_of l (length buf) → new ≡ overwrite buf 0 (payload_of (packets_in l)) → new ≡ joined_buffer l buf
+  pub filled : {n : ℕ} {new : List ℕ} → Ok n ≡ joined_of l (length buf) → new ≡ overwrite buf 0 (payload_of (packets_in l)) → new ≡ joined_buffer l buf
   unfolding joined_buffer
   filled q w = rw (sym q) w
 
 -- no more is written than the bytes that are lent
-abbrev Within : ℕ → Joined → Type 0
-Within room (Written n) = n ≤ room
-Within room (Refused r) = room ≡ room
+abbrev Within : ℕ → Result ℕ ℕ → Type 0
+Within room (Ok n) = n ≤ room
+Within room (Err r) = room ≡ room
 
 within_by : (s : Stop) (n room : ℕ) → Within room (joined_by s n room)
 within_by over n room = by-test (ltb room n) (λ t. rw t refl) (λ t. rw t (ltb-false room n t))
 within_by broken n room = refl
 within_by (bad r) n room = refl
 
-within-joined : (l : List ℕ) (room : ℕ) {j : Joined} → j ≡ joined_of l room → Within room j
+within-joined : (l : List ℕ) (room : ℕ) {j : Result ℕ ℕ} → j ≡ joined_of l room → Within room j
 unfolding joined_of
 within-joined l room e = rw e (within_by (stop_of (packets_in l)) (length (payload_of (packets_in l))) room)
 
-pub within : (l : List ℕ) (room : ℕ) {n : ℕ} → Written n ≡ joined_of l room → n ≤ room
+pub within : (l : List ℕ) (room : ℕ) {n : ℕ} → Ok n ≡ joined_of l room → n ≤ room
 within l room e = within-joined l room e
 
 -- ---- a payload that was cut is joined again, whatever the size
 
 pub join-cut : (size : ℕ) (p buf : List ℕ) → 9 ≤ size → size < 65536 → 1 ≤ length p → length p ≤ length buf
-    → (joined_of (packets_of size p) (length buf) ≡ Written (length p)) × (joined_buffer (packets_of size p) buf ≡ overwrite buf 0 p)
+    → (joined_of (packets_of size p) (length buf) ≡ Ok (length p)) × (joined_buffer (packets_of size p) buf ≡ overwrite buf 0 p)
 unfolding joined_buffer
 join-cut size p buf some short h room =
     let w = joined size p some short h in
-    let a : Written (length p) ≡ joined_of (packets_of size p) (length buf) =
+    let a : Ok (length p) ≡ joined_of (packets_of size p) (length buf) =
     answered (packets_of size p) (length buf) (simp (le-ltb (length buf) (length p) room)) (w.ends, ap length w.payload) in
     (sym a, rw (sym a, w.payload))

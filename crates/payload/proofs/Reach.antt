@@ -1,29 +1,28 @@
 -- The packet of a payload place, from a frame on: what it tells of the bytes that are read there. Assumes nothing.
 use mathlib.Core.Path.{◌≡◌, refl, sym, ap, ◌∙◌}
 use mathlib.Core.List.{List, [], ◌∷◌, ◌++◌}
-use mathlib.Core.Bool.{Bool, true, false, cond, not, ◌&&◌}
+use mathlib.Core.Bool.{Bool, true, false, cond, ◌&&◌}
 use Prim.Native.Nat.{ℕ, zero, suc, ◌+◌, ◌-◌, ◌*◌, ◌≤◌, ◌<◌}
 use native.Mathlib.Omega.{arith}
 use lib.Dec.{leb, eqb}
 use lib.ListN.{length, take, drop, get_or, length-drop}
-use borrow.Author.Tests.{le-leb, lt-leb, leb-true, leb-false, eqb-true, not-false}
+use borrow.Author.Tests.{le-leb, lt-leb, leb-true, leb-false, eqb-true}
 use Rattle.wire.proofs.Cases.{split, by-test, clash}
 use Rattle.wire.specs.Le.{le_at}
 use Rattle.wire.proofs.Le.{le-one}
 use Rattle.payload.specs.declared.frames.Frame.{Frame}
-use Rattle.payload.specs.declared.frames.Moved.{Moved}
-use Rattle.payload.specs.declared.frames.Reached.{Reached}
-use Rattle.payload.specs.declared.frames.Reached.TheVariants as reached
+use Rattle.std.specs.Prelude.{Result, Ok, Err}
+use Rattle.std.specs.Result.{result_unwrap_or}
+use Rattle.refusals.specs.declared.Refusal.{Refusal}
+use Rattle.refusals.specs.Refused.{numbered}
 use Rattle.payload.specs.Packets.{Packets, packet, stop, Stop, payload_of, stop_of, refusal_at}
 use Rattle.payload.specs.Places.{whole, number_at, part_at}
 use Rattle.payload.specs.Answers.{number_read, part_read}
-use Rattle.payload.specs.declared.NumberRead.TheVariants as number
-use Rattle.payload.specs.declared.PartRead.TheVariants as part
 use Rattle.payload.specs.Positions.{corner_from}
 use Rattle.payload.specs.Frames.{lies, beyond, source_from, frame_of, reach_from, nowhere_of, reach_of, frame_by, frame_at}
 use Rattle.payload.proofs.CodeReads.{and-true, number-stands, part-stands, part_cut}
 use Rattle.payload.proofs.Sources.{Same, same_self, same-later, same_then}
-use Rattle.payload.proofs.Onto.{here, lying, source-from, source-length, source-stop, Onto, After, goes, overs, breaks, bads, after, onto_same}
+use Rattle.payload.proofs.Onto.{here, lying, source-from, source-length, source-stop, Onto, After, goes, ends, after, onto_same}
 
 -- a frame by its fields
 pub frame_is : (g : Frame) {b e n : ℕ} → b ≡ g.base → e ≡ g.end → n ≡ g.number → record { base = b; end = e; number = n; last = g.last } ≡ g
@@ -35,7 +34,7 @@ onto-frame {g = g} o = let b = o.base in let s = o.some in frame_is g (sym b) (o
 -- ---- the walk
 
 module _ (n : ℕ) where
-  pub reach_here : (f : Frame) (ps : Packets) → n ≤ f.end → reach_from f ps n ≡ reached.In f
+  pub reach_here : (f : Frame) (ps : Packets) → n ≤ f.end → reach_from f ps n ≡ Ok f
   unfolding reach_from
   reach_here f (packet p last ps) h = rw (le-leb n f.end h)
   reach_here f (stop s) h = rw (le-leb n f.end h)
@@ -44,7 +43,7 @@ module _ (n : ℕ) where
   unfolding reach_from
   reach-on f p last ps h = rw (lt-leb n f.end h)
 
-  pub reach-stop : (f : Frame) {ps : Packets} {s : Stop} → ps ≡ stop s → f.end < n → reach_from f ps n ≡ reached.Past (refusal_at s)
+  pub reach-stop : (f : Frame) {ps : Packets} {s : Stop} → ps ≡ stop s → f.end < n → reach_from f ps n ≡ Err (refusal_at s)
   unfolding reach_from
   reach-stop f e h = rw (e, lt-leb n f.end h)
 
@@ -74,18 +73,16 @@ module _ (n : ℕ) where
         let t = d.long in
         record { lies = d.lies; to = d.to; long = omega (arith, s.size); same = λ m j. same_then (same-later f.end (omega arith) s) (d.same m j) }
 
-    found-by : (f g : Frame) {m : Moved} (p : List ℕ) (last : Bool) (qs : Packets) → lies l f ≡ true → f.end < n → beyond l f ≡ packet p last qs → After l f m
-        → ((x : Frame) → lies l x ≡ true → beyond l x ≡ qs → reach_from x qs n ≡ reached.In g → Found l x g)
-        → reach_from f (packet p last qs) n ≡ reached.In g → Found l f g
+    found-by : (f g : Frame) {m : Result Frame Stop} (p : List ℕ) (last : Bool) (qs : Packets) → lies l f ≡ true → f.end < n → beyond l f ≡ packet p last qs → After l f m
+        → ((x : Frame) → lies l x ≡ true → beyond l x ≡ qs → reach_from x qs n ≡ Ok g → Found l x g)
+        → reach_from f (packet p last qs) n ≡ Ok g → Found l f g
     found-by f g p last qs e h q (goes {g = x} o) later r =
         let u : packet p last qs ≡ packet (here l x) x.last (beyond l x) = sym q ∙ o.is in
         let v : beyond l x ≡ qs = cc in
         found-on e h o (later x o.lies v (ap (λ (ps : Packets). reach_from x ps n) (sym v) ∙ sym (reach-moves o h) ∙ ap (λ (ps : Packets). reach_from f ps n) q ∙ r))
-    found-by f g p last qs e h q (overs z) later r = clash (cc)
-    found-by f g p last qs e h q (breaks z) later r = clash (cc)
-    found-by f g p last qs e h q (bads z) later r = clash (cc)
+    found-by f g p last qs e h q (ends z) later r = clash (cc)
 
-    pub found : (ps : Packets) (f g : Frame) → lies l f ≡ true → beyond l f ≡ ps → reach_from f ps n ≡ reached.In g → Found l f g
+    pub found : (ps : Packets) (f g : Frame) → lies l f ≡ true → beyond l f ≡ ps → reach_from f ps n ≡ Ok g → Found l f g
     found (stop s) f g e q r =
         split n f.end
         (λ h. let z = reach_here f (stop s) h in found_here f g e h (cc))
@@ -97,20 +94,18 @@ module _ (n : ℕ) where
 
     -- ---- past the payload
 
-    past_by : (f : Frame) {m : Moved} (p : List ℕ) (last : Bool) (qs : Packets) {r : ℕ} → lies l f ≡ true → f.end < n → beyond l f ≡ packet p last qs → After l f m
-        → ((x : Frame) → lies l x ≡ true → beyond l x ≡ qs → reach_from x qs n ≡ reached.Past r → Past l x r)
-        → reach_from f (packet p last qs) n ≡ reached.Past r → Past l f r
+    past_by : (f : Frame) {m : Result Frame Stop} (p : List ℕ) (last : Bool) (qs : Packets) {r : ℕ} → lies l f ≡ true → f.end < n → beyond l f ≡ packet p last qs → After l f m
+        → ((x : Frame) → lies l x ≡ true → beyond l x ≡ qs → reach_from x qs n ≡ Err r → Past l x r)
+        → reach_from f (packet p last qs) n ≡ Err r → Past l f r
     past_by f p last qs e h q (goes {g = x} o) later r =
         let u : packet p last qs ≡ packet (here l x) x.last (beyond l x) = sym q ∙ o.is in
         let v : beyond l x ≡ qs = cc in
         let s = onto_same e o in
         let d = later x o.lies v (ap (λ (ps : Packets). reach_from x ps n) (sym v) ∙ sym (reach-moves o h) ∙ ap (λ (ps : Packets). reach_from f ps n) q ∙ r) in
         (omega (arith, s.size, d.0), d.1 ∙ sym s.stops)
-    past_by f p last qs e h q (overs z) later r = clash (cc)
-    past_by f p last qs e h q (breaks z) later r = clash (cc)
-    past_by f p last qs e h q (bads z) later r = clash (cc)
+    past_by f p last qs e h q (ends z) later r = clash (cc)
 
-    pub past : (ps : Packets) (f : Frame) {r : ℕ} → lies l f ≡ true → beyond l f ≡ ps → reach_from f ps n ≡ reached.Past r → Past l f r
+    pub past : (ps : Packets) (f : Frame) {r : ℕ} → lies l f ≡ true → beyond l f ≡ ps → reach_from f ps n ≡ Err r → Past l f r
     unfolding payload_of stop_of
     past (stop s) f e q r =
         split n f.end
@@ -132,7 +127,7 @@ pub record Reaching (l : List ℕ) (f here : Frame) (n : ℕ) : Type 0 where
   pub lies : lies l here ≡ true
   pub is : reach_of l f n ≡ reach_from here (beyond l here) n
 
-pub reach-nowhere : (l : List ℕ) (f : Frame) (n : ℕ) {r : Reached} → lies l f ≡ false → r ≡ nowhere_of f n → r ≡ reach_of l f n
+pub reach-nowhere : (l : List ℕ) (f : Frame) (n : ℕ) {r : Result Frame ℕ} → lies l f ≡ false → r ≡ nowhere_of f n → r ≡ reach_of l f n
 unfolding reach_of
 reach-nowhere l f n e q = rw e q
 
@@ -144,31 +139,31 @@ module _ {l : List ℕ} {f g : Frame} {n : ℕ} (r : Reaching l f g n) where
   pub reach-again : {h : Frame} → leb n g.end ≡ false → Onto l g h → Reaching l f h n
   reach-again t o = record { lies = o.lies; is = r.is ∙ reach-moves n o (leb-false n g.end t) }
 
-  pub reach-stops : {s : Stop} → leb n g.end ≡ false → beyond l g ≡ stop s → reached.Past (refusal_at s) ≡ reach_of l f n
+  pub reach-stops : {s : Stop} → leb n g.end ≡ false → beyond l g ≡ stop s → Err (refusal_at s) ≡ reach_of l f n
   reach-stops t e = sym (r.is ∙ reach-stop n g e (leb-false n g.end t))
 
-  pub reach-ends : leb n g.end ≡ true → reached.In g ≡ reach_of l f n
+  pub reach-ends : leb n g.end ≡ true → Ok g ≡ reach_of l f n
   reach-ends t = sym (r.is ∙ reach_here n g (beyond l g) (leb-true n g.end t))
 
 -- ---- from any frame
 
 module _ (l : List ℕ) (f : Frame) (n : ℕ) where
   -- the frame lies in the lent bytes, or is read as nothing
-  reach-by : {X : Type 0} (b : Bool) {x : Reached} → lies l f ≡ b → cond b (reach_from f (beyond l f) n) (nowhere_of f n) ≡ x
+  reach-by : {X : Type 0} (b : Bool) {x : Result Frame ℕ} → lies l f ≡ b → cond b (reach_from f (beyond l f) n) (nowhere_of f n) ≡ x
       → (lies l f ≡ true → reach_from f (beyond l f) n ≡ x → X) → (lies l f ≡ false → nowhere_of f n ≡ x → X) → X
   reach-by true e q here none = here e q
   reach-by false e q here none = none e q
 
-  reach-cases : {X : Type 0} {x : Reached} → reach_of l f n ≡ x
+  reach-cases : {X : Type 0} {x : Result Frame ℕ} → reach_of l f n ≡ x
       → (lies l f ≡ true → reach_from f (beyond l f) n ≡ x → X) → (lies l f ≡ false → nowhere_of f n ≡ x → X) → X
   unfolding reach_of
   reach-cases q here none = reach-by (lies l f) refl q here none
 
-  nowhere-in : (b : Bool) {g : Frame} → eqb n 0 ≡ b → cond b (reached.In f) (reached.Past 24) ≡ reached.In g → (n ≡ 0) × (f ≡ g)
+  nowhere-in : (b : Bool) {g : Frame} → eqb n 0 ≡ b → cond {A = Result Frame ℕ} b (Ok f) (Err 24) ≡ Ok g → (n ≡ 0) × (f ≡ g)
   nowhere-in true e q = (eqb-true n 0 e, cc)
   nowhere-in false e q = clash (cc)
 
-  nowhere-past : (b : Bool) {r : ℕ} → eqb n 0 ≡ b → cond b (reached.In f) (reached.Past 24) ≡ reached.Past r → (0 < n) × (r ≡ 24)
+  nowhere-past : (b : Bool) {r : ℕ} → eqb n 0 ≡ b → cond {A = Result Frame ℕ} b (Ok f) (Err 24) ≡ Err r → (0 < n) × (r ≡ 24)
   nowhere-past true e q = clash (cc)
   nowhere-past false e q = (eqb-not n e, cc)
     where
@@ -181,14 +176,14 @@ module _ (l : List ℕ) (f : Frame) (n : ℕ) where
   nothing-there e = rw e
 
   -- n bytes stand there
-  pub reach-long : {g : Frame} → reach_of l f n ≡ reached.In g → (n ≤ length (source_from l f).bytes) × (n ≤ length l)
+  pub reach-long : {g : Frame} → reach_of l f n ≡ Ok g → (n ≤ length (source_from l f).bytes) × (n ≤ length l)
   reach-long {g} q =
       reach-cases q
       (λ e r. let d = found n l (beyond l f) f g e refl r in let w = lying l g d.lies in let t = d.to in (d.long, omega arith))
       (λ e r. let d = nowhere-in (eqb n 0) refl r in (omega (arith, d.0), omega (arith, d.0)))
 
   -- or they do not
-  pub reach-past : {r : ℕ} → reach_of l f n ≡ reached.Past r → Past n l f r
+  pub reach-past : {r : ℕ} → reach_of l f n ≡ Err r → Past n l f r
   reach-past q =
       reach-cases q
       (λ e r. past n l (beyond l f) f e refl r)
@@ -198,14 +193,14 @@ module _ (l : List ℕ) (f : Frame) (n : ℕ) where
       (rw z d.0, rw z d.1))
 
   -- the frame lies in the lent bytes, where the first one does
-  pub reach-lies : {g : Frame} → lies l f ≡ true → reach_of l f n ≡ reached.In g → lies l g ≡ true
+  pub reach-lies : {g : Frame} → lies l f ≡ true → reach_of l f n ≡ Ok g → lies l g ≡ true
   reach-lies {g} h q =
       reach-cases q
       (λ e r. (found n l (beyond l f) f g e refl r).lies)
       (λ e r. rw (sym (nowhere-in (eqb n 0) refl r).1) h)
 
   -- what is read from there on is the same
-  pub reach-same : {g : Frame} → reach_of l f n ≡ reached.In g → (m : ℕ) → n ≤ m + 1 → Same (source_from l f) (source_from l g) m
+  pub reach-same : {g : Frame} → reach_of l f n ≡ Ok g → (m : ℕ) → n ≤ m + 1 → Same (source_from l f) (source_from l g) m
   reach-same {g} q m h =
       reach-cases q
       (λ e r. (found n l (beyond l f) f g e refl r).same m h)
@@ -214,13 +209,10 @@ module _ (l : List ℕ) (f : Frame) (n : ℕ) where
 -- ---- the frame of a place
 
 module _ (l : List ℕ) (f : Frame) (n : ℕ) where
-  pub frame-in : {x : Reached} {g : Frame} → x ≡ reach_of l f n → x ≡ reached.In g → g ≡ frame_at l f n
+  pub frame-by : (r : Result Frame Refusal) → numbered r ≡ reach_of l f n → result_unwrap_or r f ≡ frame_at l f n
   unfolding frame_at
-  frame-in e q = rw (sym e, q)
-
-  pub frame_past : {x : Reached} {r : ℕ} → x ≡ reach_of l f n → x ≡ reached.Past r → f ≡ frame_at l f n
-  unfolding frame_at
-  frame_past e q = rw (sym e, q)
+  frame-by (Ok g) e = rw (sym e)
+  frame-by (Err x) e = rw (sym e)
 
   -- in the frame itself, and of a frame that the lent bytes do not have
   within_by : (b : Bool) → lies l f ≡ b → n ≤ f.end → frame_by f (cond b (reach_from f (beyond l f) n) (nowhere_of f n)) ≡ f
@@ -234,21 +226,21 @@ module _ (l : List ℕ) (f : Frame) (n : ℕ) where
   pub at_place : reach_of l f (n + 0) ≡ reach_of l f n
   at_place = let z : n + 0 ≡ n = omega arith in rw z
 
-  same_by : (x : Reached) → reach_of l f n ≡ x → Same (source_from l f) (source_from l (frame_by f x)) n
-  same_by (reached.In g) e = reach-same l f n e n (omega arith)
-  same_by (reached.Past r) e = same_self (source_from l f) n
+  same_by : (x : Result Frame ℕ) → reach_of l f n ≡ x → Same (source_from l f) (source_from l (frame_by f x)) n
+  same_by (Ok g) e = reach-same l f n e n (omega arith)
+  same_by (Err r) e = same_self (source_from l f) n
 
   -- what is read from the place on is the same there
   pub frame_same : Same (source_from l f) (source_from l (frame_at l f n)) n
   unfolding frame_at
   frame_same = same_by (reach_of l f n) refl
 
-  reached-by : (x : Reached) → reach_of l f n ≡ x → n ≤ length (source_from l f).bytes → reach_of l f n ≡ reached.In (frame_by f x)
-  reached-by (reached.In g) e h = e
-  reached-by (reached.Past r) e h = absurd (omega (arith, (reach-past l f n e).0))
+  reached-by : (x : Result Frame ℕ) → reach_of l f n ≡ x → n ≤ length (source_from l f).bytes → reach_of l f n ≡ Ok (frame_by f x)
+  reached-by (Ok g) e h = e
+  reached-by (Err r) e h = absurd (omega (arith, (reach-past l f n e).0))
 
   -- it is the one reached, where the payload has the place
-  pub frame-reached : n ≤ length (source_from l f).bytes → reach_of l f n ≡ reached.In (frame_at l f n)
+  pub frame-reached : n ≤ length (source_from l f).bytes → reach_of l f n ≡ Ok (frame_at l f n)
   unfolding frame_at
   frame-reached h = reached-by (reach_of l f n) refl h
 
@@ -273,7 +265,7 @@ number-here l f k at e h =
     )
 
 -- the byte that was found
-module _ (l : List ℕ) (f : Frame) (at : ℕ) {g : Frame} (q : reach_of l f (at + 1) ≡ reached.In g) where
+module _ (l : List ℕ) (f : Frame) (at : ℕ) {g : Frame} (q : reach_of l f (at + 1) ≡ Ok g) where
   byte-found : Found (at + 1) l f g
   byte-found =
       reach-cases l f (at + 1) q
@@ -294,7 +286,7 @@ module _ (l : List ℕ) (f : Frame) (at : ℕ) {g : Frame} (q : reach_of l f (at
 -- ---- the corner of what was reached
 
 -- the packet that was reached, and the place in it, are those of the payload place
-pub corner-reached : (ps : Packets) (f g : Frame) (p : List ℕ) (last : Bool) (n : ℕ) → f.end ≡ f.base + length p → reach_from f ps n ≡ reached.In g
+pub corner-reached : (ps : Packets) (f g : Frame) (p : List ℕ) (last : Bool) (n : ℕ) → f.end ≡ f.base + length p → reach_from f ps n ≡ Ok g
     → corner_from f.base f.number (packet p last ps) n ≡ record { packet = g.number; place = 8 + (n - g.base) }
 unfolding corner_from
 corner-reached (stop s) f g p last n e r =
@@ -311,32 +303,32 @@ corner-reached (packet x last' qs) f g p last n e r =
 -- ---- numbers and parts, by what was reached
 
 module _ (l : List ℕ) (f : Frame) (k at : ℕ) where
-  pub part-past : {r : ℕ} → reach_of l f (at + k) ≡ reached.Past r → part.Refused r ≡ part_read (part_at k (source_from l f) at whole)
+  pub part-past : {r : ℕ} → reach_of l f (at + k) ≡ Err r → Err r ≡ part_read (part_at k (source_from l f) at whole)
   part-past q =
       let p = reach-past l f (at + k) q in
-      ap part.Refused p.1 ∙ part_cut k (source_from l f) at (lt-leb (at + k) (length (source_from l f).bytes) p.0)
+      ap Err p.1 ∙ part_cut k (source_from l f) at (lt-leb (at + k) (length (source_from l f).bytes) p.0)
 
-  pub part-reached : {g : Frame} → reach_of l f (at + k) ≡ reached.In g
-      → part.Whole (record { part = record { start = at; len = k }; next = at + k }) ≡ part_read (part_at k (source_from l f) at whole)
+  pub part-reached : {g : Frame} → reach_of l f (at + k) ≡ Ok g
+      → Ok (record { part = record { start = at; len = k }; next = at + k }) ≡ part_read (part_at k (source_from l f) at whole)
   part-reached q = part-stands k (source_from l f) at (le-leb (at + k) (length (source_from l f).bytes) (reach-long l f (at + k) q).0)
 
 -- in the frame itself, where a test b says that the frame holds them
-module _ (l : List ℕ) (f : Frame) (k at : ℕ) {b : Bool} (e : b ≡ (lies l f && leb (at + k) f.end)) (t : not b ≡ false) where
+module _ (l : List ℕ) (f : Frame) (k at : ℕ) {b : Bool} (e : b ≡ (lies l f && leb (at + k) f.end)) (t : b ≡ true) where
   tested : (lies l f ≡ true) × (at + k ≤ f.end)
-  tested = let w = and-true (lies l f) (leb (at + k) f.end) (sym e ∙ not-false b t) in (w.0, leb-true (at + k) f.end w.1)
+  tested = let w = and-true (lies l f) (leb (at + k) f.end) (sym e ∙ t) in (w.0, leb-true (at + k) f.end w.1)
 
   -- its bytes are lent
   pub held-within : at + k + 8 * f.number ≤ length l
   held-within = let w = tested in let x = lying l f w.0 in let y = w.1 in omega arith
 
   pub number-held : {v : ℕ} → v ≡ le_at k (drop (at + 8 * f.number) l)
-      → number.Whole (record { value = v; next = at + k }) ≡ number_read (number_at k (source_from l f) at whole)
+      → Ok (record { value = v; next = at + k }) ≡ number_read (number_at k (source_from l f) at whole)
   number-held q =
       let w = tested in
       let h = number-here l f k at w.0 w.1 in
       number-stands k (source_from l f) at (le-leb (at + k) (length (source_from l f).bytes) h.0) (q ∙ sym h.1)
 
-  pub part_held : part.Whole (record { part = record { start = at; len = k }; next = at + k }) ≡ part_read (part_at k (source_from l f) at whole)
+  pub part_held : Ok (record { part = record { start = at; len = k }; next = at + k }) ≡ part_read (part_at k (source_from l f) at whole)
   part_held =
       let w = tested in
       part-stands k (source_from l f) at (le-leb (at + k) (length (source_from l f).bytes) (number-here l f k at w.0 w.1).0)

@@ -10,17 +10,13 @@ use borrow.Author.Tests.{le-leb, lt-leb, leb-true}
 use Rattle.wire.proofs.Cases.{split, clash}
 use Rattle.payload.specs.declared.frames.Frame.{Frame}
 use Rattle.payload.specs.declared.frames.Next.{Next}
-use Rattle.payload.specs.declared.frames.Next.TheVariants as next
-use Rattle.payload.specs.declared.frames.Moved.{Moved}
-use Rattle.payload.specs.declared.frames.Reached.TheVariants as reached
 use Rattle.payload.specs.declared.frames.Spotted.{Spotted}
-use Rattle.payload.specs.declared.frames.Spotted.TheVariants as spotted
-use Rattle.payload.specs.Packets.{Packets, packet, stop, Stop, bad, broken, over, next_of, packets_in, payload_of, source_of}
+use Rattle.std.specs.Prelude.{Result, Ok, Err}
+use Rattle.payload.specs.Packets.{Packets, packet, stop, Stop, next_of, packets_in, payload_of, source_of}
 use Rattle.payload.specs.Positions.{Placed, at, refused, lost_at, place_from, place_in, Corner, corner_from, corner_of}
 use Rattle.payload.specs.Frames.{lies, beyond, source_from, framed, frame_of, within_frame, spot_from, spot_in, reach_from, reach_of}
 use Rattle.payload.proofs.Sources.{Same, same-later, same_then}
-use Rattle.payload.proofs.Onto.{here, Onto, After, goes, overs, breaks, bads, after, after-by, onto-of, onto_same, First, Begins, first, begun-by, first-same}
-use Rattle.payload.proofs.Onto as onto
+use Rattle.payload.proofs.Onto.{here, Onto, After, goes, ends, after, after-by, onto-of, end-of, onto_same, First, Begins, first, none, begun-by, first-same}
 use Rattle.payload.proofs.Walk.{fits}
 use Rattle.payload.proofs.Reach.{corner-reached, frame_is}
 
@@ -32,7 +28,7 @@ pub record Walked (l : List ℕ) (n place : ℕ) (f : Frame) : Type 0 where
   pub some : f.base ≤ f.end
   pub size : length (here l f) ≡ f.end - f.base
   pub ahead : (1 ≤ n → f.number ≤ n)
-  pub none : (n ≡ 0 → spot_in (packets_in l) n place ≡ spotted.Refused 24)
+  pub none : (n ≡ 0 → spot_in (packets_in l) n place ≡ Err 24)
   pub spot : (1 ≤ n → spot_in (packets_in l) n place ≡ spot_from f.base f.number (packet (here l f) f.last (beyond l f)) (n - f.number) place)
 
 spot-one : (p : List ℕ) (last : Bool) (ps : Packets) (n place : ℕ) → 1 ≤ n → spot_in (packet p last ps) n place ≡ spot_from 0 1 (packet p last ps) (n - 1) place
@@ -40,7 +36,7 @@ unfolding spot_in
 spot-one p last ps zero place h = absurd (omega arith)
 spot-one p last ps (suc n) place h = let a : suc n - 1 ≡ n = omega arith in rw a
 
-spot-none : (p : List ℕ) (last : Bool) (ps : Packets) (n place : ℕ) → n ≡ 0 → spot_in (packet p last ps) n place ≡ spotted.Refused 24
+spot-none : (p : List ℕ) (last : Bool) (ps : Packets) (n place : ℕ) → n ≡ 0 → spot_in (packet p last ps) n place ≡ Err 24
 unfolding spot_in
 spot-none p last ps n place e = rw e
 
@@ -83,19 +79,19 @@ walk-on {l} {f} {g} n place w h o =
     }
 
 -- the packets end before packet n
-spot-stop : (base number : ℕ) (s : Stop) (i place : ℕ) → spot_from base number (stop s) i place ≡ spotted.Refused (lost_at s)
+spot-stop : (base number : ℕ) (s : Stop) (i place : ℕ) → spot_from base number (stop s) i place ≡ Err (lost_at s)
 unfolding spot_from
 spot-stop base number s i place = refl
 
 pub walk-stop : {l : List ℕ} {f : Frame} (n place : ℕ) {s : Stop} → Walked l n place f → f.number < n → beyond l f ≡ stop s
-    → spotted.Refused (lost_at s) ≡ spot_in (packets_in l) n place
+    → Err (lost_at s) ≡ spot_in (packets_in l) n place
 walk-stop {l} {f} n place {s} w h e =
     sym (w.spot (omega arith) ∙ spot-next f.base f.number (here l f) f.last (beyond l f) (n - f.number) place (omega arith)
     ∙ ap (λ (ps : Packets). spot_from (f.base + length (here l f)) (f.number + 1) ps (n - f.number - 1) place) e
     ∙ spot-stop (f.base + length (here l f)) (f.number + 1) s (n - f.number - 1) place)
 
 -- it is the frame's
-pub walk_ends : {l : List ℕ} {f : Frame} (n place : ℕ) {r : Spotted} → Walked l n place f → n ≤ f.number → (n ≡ 0 → ⊥) → r ≡ within_frame f place → r ≡ spot_in (packets_in l) n place
+pub walk_ends : {l : List ℕ} {f : Frame} (n place : ℕ) {r : Result Spotted ℕ} → Walked l n place f → n ≤ f.number → (n ≡ 0 → ⊥) → r ≡ within_frame f place → r ≡ spot_in (packets_in l) n place
 unfolding spot_from
 walk_ends {l} {f} zero place w h z e = absurd (z refl)
 walk_ends {l} {f} (suc n) place w h z e =
@@ -106,7 +102,7 @@ walk_ends {l} {f} (suc n) place w h z e =
     e ∙ sym (w.spot (omega arith) ∙ ap (λ (i : ℕ). spot_from f.base f.number (packet (here l f) f.last (beyond l f)) i place) a ∙ ap (λ (x : Frame). within_frame x place) q)
 
 -- there is no first packet
-pub walk_none : (l : List ℕ) {s : Stop} (n place : ℕ) → packets_in l ≡ stop s → spotted.Refused (lost_at s) ≡ spot_in (packets_in l) n place
+pub walk_none : (l : List ℕ) {s : Stop} (n place : ℕ) → packets_in l ≡ stop s → Err (lost_at s) ≡ spot_in (packets_in l) n place
 unfolding spot_in spot_from
 walk_none l zero place e = rw e
 walk_none l (suc n) place e = rw e
@@ -132,20 +128,23 @@ walking-first {l} {f} n place o =
 
 module _ {l : List ℕ} {n place start to number : ℕ} {last : Bool} (w : Walking l n place start to number last) where
   -- what stands at the next header's index follows the frame
-  pub walking_after : {x : Next} → next_of (number + 1) last (drop to l) ≡ x → After l (between start to number last) (framed (to - 8 * number) (number + 1) x)
+  walking_after : {x : Result Next Stop} → next_of (number + 1) last (drop to l) ≡ x → After l (between start to number last) (framed (to - 8 * number) (number + 1) x)
   walking_after {x} q =
       let z : to - 8 * number + 8 * number ≡ to = omega (arith, w.past) in
       after-by l (between start to number last) w.walked.lies x (ap (λ (i : ℕ). next_of (number + 1) last (drop i l)) z ∙ q)
 
+  pub walking_end : {s : Stop} → next_of (number + 1) last (drop to l) ≡ Err s → beyond l (between start to number last) ≡ stop s
+  walking_end q = end-of (walking_after q)
+
   -- a packet there ends within the lent bytes
-  pub walking-fits : {k : ℕ} {ends : Bool} → next_of (number + 1) last (drop to l) ≡ next.Packet k ends → to + 8 + k ≤ length l
+  pub walking-fits : {p : Next} → next_of (number + 1) last (drop to l) ≡ Ok p → to + 8 + p.len ≤ length l
   walking-fits q = let m = fits (number + 1) last (drop to l) q in omega (arith, m.0, m.1, length-drop to l)
 
-  pub walking_on : {k : ℕ} {ends : Bool} → number < n → next_of (number + 1) last (drop to l) ≡ next.Packet k ends → Walking l n place to (to + 8 + k) (number + 1) ends
-  walking_on {k} {ends} h q =
-      let p = w.past in
-      let g : Frame = record { base = to - 8 * number; end = to - 8 * number + k; number = number + 1; last = ends } in
-      let e : between to (to + 8 + k) (number + 1) ends ≡ g = frame_is g (omega arith) (omega arith) refl in
+  pub walking_on : {p : Next} → number < n → next_of (number + 1) last (drop to l) ≡ Ok p → Walking l n place to (to + 8 + p.len) (number + 1) p.last
+  walking_on {p} h q =
+      let b = w.past in
+      let g : Frame = record { base = to - 8 * number; end = to - 8 * number + p.len; number = number + 1; last = p.last } in
+      let e : between to (to + 8 + p.len) (number + 1) p.last ≡ g = frame_is g (omega arith) (omega arith) refl in
       record { some = omega arith; from = omega arith; past = omega arith; walked = rw e (walk-on n place w.walked h (onto-of (walking_after q))) }
 
 -- ---- what stands at a position
@@ -156,7 +155,7 @@ pub record Stood (l : List ℕ) (f : Frame) (n : ℕ) : Type 0 where
   pub from : f.base ≤ n
   pub to : n ≤ f.end
   pub same : Same (source_of (packets_in l)) (source_from l f) n
-  pub corner : (m : ℕ) (g : Frame) → n < m → reach_of l f m ≡ reached.In g → corner_of (packets_in l) m ≡ record { packet = g.number; place = 8 + (m - g.base) }
+  pub corner : (m : ℕ) (g : Frame) → n < m → reach_of l f m ≡ Ok g → corner_of (packets_in l) m ≡ record { packet = g.number; place = 8 + (m - g.base) }
 
 -- a frame of the lent bytes
 record Valid (l : List ℕ) (f : Frame) : Type 0 where
@@ -217,12 +216,12 @@ valid-stands {l} {f} n v a b =
           v.corner m (omega arith) ∙ corner-reached (beyond l f) f g (here l f) f.last m (omega (arith, v.size)) (sym (reach-lies l f m v.lies) ∙ r);
     }
 
-within_by : (a b : Bool) (f : Frame) (k : ℕ) {g : Frame} {n : ℕ} → cond (a && b) (spotted.At f k) (spotted.Refused 24) ≡ spotted.At g n → (a ≡ true) × (b ≡ true) × (f ≡ g) × (k ≡ n)
-within_by true true f k e = (refl, refl, cc, cc)
+within_by : (a b : Bool) (f : Frame) (k : ℕ) {s : Spotted} → cond {A = Result Spotted ℕ} (a && b) (Ok (record { frame = f; place = k })) (Err 24) ≡ Ok s → (a ≡ true) × (b ≡ true) × (f ≡ s.frame) × (k ≡ s.place)
+within_by true true f k {s} e = let z : record { frame = f; place = k } ≡ s = cc in (refl, refl, ap (λ (x : Spotted). x.frame) z, ap (λ (x : Spotted). x.place) z)
 within_by true false f k e = clash (cc)
 within_by false b f k e = clash (cc)
 
-stood-here : {l : List ℕ} {f g : Frame} (place : ℕ) {n : ℕ} → Valid l f → within_frame f place ≡ spotted.At g n → Stood l g n
+stood-here : {l : List ℕ} {f : Frame} (place : ℕ) {s : Spotted} → Valid l f → within_frame f place ≡ Ok s → Stood l s.frame s.place
 stood-here {l} {f} place v e =
     let w = within_by (leb 8 place) (leb place (8 + (f.end - f.base))) f (f.base + (place - 8)) e in
     let x = leb-true 8 place w.0 in
@@ -230,22 +229,20 @@ stood-here {l} {f} place v e =
     let t = v.some in
     rw (sym w.2, sym w.3) (valid-stands (f.base + (place - 8)) v (omega arith) (omega arith))
 
-module _ (l : List ℕ) (place : ℕ) (g : Frame) (n : ℕ) where
+module _ (l : List ℕ) (place : ℕ) (s : Spotted) where
   abbrev Spot : Frame → ℕ → Packets → Type 0
-  Spot f i ps = spot_from f.base f.number (packet (here l f) f.last ps) i place ≡ spotted.At g n
+  Spot f i ps = spot_from f.base f.number (packet (here l f) f.last ps) i place ≡ Ok s
 
-  stood-by : (f : Frame) (i : ℕ) {m : Moved} → Valid l f → After l f m → ((x : Frame) → Valid l x → Spot x i (beyond l x) → Stood l g n)
-      → spot_from (f.base + length (here l f)) (f.number + 1) (beyond l f) i place ≡ spotted.At g n → Stood l g n
+  stood-by : (f : Frame) (i : ℕ) {m : Result Frame Stop} → Valid l f → After l f m → ((x : Frame) → Valid l x → Spot x i (beyond l x) → Stood l s.frame s.place)
+      → spot_from (f.base + length (here l f)) (f.number + 1) (beyond l f) i place ≡ Ok s → Stood l s.frame s.place
   stood-by f i v (goes {g = x} o) later e =
       let b = o.base in
       let t = v.some in
       let a : f.base + length (here l f) ≡ x.base = omega (arith, v.size) in
       later x (valid-on v o) (sym (ap (λ (ps : Packets). spot_from (f.base + length (here l f)) (f.number + 1) ps i place) o.is ∙ rw (a, sym o.number)) ∙ e)
-  stood-by f i v (overs z) later e = let q = spot-stop (f.base + length (here l f)) (f.number + 1) over i place in clash (cc)
-  stood-by f i v (breaks z) later e = let q = spot-stop (f.base + length (here l f)) (f.number + 1) broken i place in clash (cc)
-  stood-by f i v (bads {r = r} z) later e = let q = spot-stop (f.base + length (here l f)) (f.number + 1) (bad r) i place in clash (cc)
+  stood-by f i v (ends {s = x} z) later e = let q = spot-stop (f.base + length (here l f)) (f.number + 1) x i place in clash (cc)
 
-  stood-from : (i : ℕ) (f : Frame) → Valid l f → Spot f i (beyond l f) → Stood l g n
+  stood-from : (i : ℕ) (f : Frame) → Valid l f → Spot f i (beyond l f) → Stood l s.frame s.place
   unfolding spot_from
   stood-from zero f v e =
       let t = v.some in
@@ -253,30 +250,28 @@ module _ (l : List ℕ) (place : ℕ) (g : Frame) (n : ℕ) where
       stood-here place v (sym (ap (λ (x : Frame). within_frame x place) q) ∙ e)
   stood-from (suc i) f v e = stood-by f i v (after l f v.lies) (stood-from i) e
 
-  stood-in : (i : ℕ) {m : Moved} → Begins l m → spot_in (packets_in l) i place ≡ spotted.At g n → Stood l g n
+  stood-in : (i : ℕ) {m : Result Frame Stop} → Begins l m → spot_in (packets_in l) i place ≡ Ok s → Stood l s.frame s.place
   stood-in i (first {f = f} o) e = go i e
     where
-      go : (i : ℕ) → spot_in (packets_in l) i place ≡ spotted.At g n → Stood l g n
+      go : (i : ℕ) → spot_in (packets_in l) i place ≡ Ok s → Stood l s.frame s.place
       go zero e = let q = ap (λ (ps : Packets). spot_in ps 0 place) o.is in let z = spot-none (here l f) f.last (beyond l f) 0 place refl in clash (cc)
       go (suc i) e =
           let w = walk_first (suc i) place o in
           let k = o.number in
           let a : suc i - f.number ≡ i = omega arith in
           stood-from i f (valid-first o) (sym (w.spot (omega arith) ∙ rw a) ∙ e)
-  stood-in i (onto.overs z) e = let q = walk_none l {s = over} i place z in clash (cc)
-  stood-in i (onto.breaks z) e = let q = walk_none l {s = broken} i place z in clash (cc)
-  stood-in i (onto.bads {r = r} z) e = let q = walk_none l {s = bad r} i place z in clash (cc)
+  stood-in i (none {s = x} z) e = let q = walk_none l {s = x} i place z in clash (cc)
 
-  pub stood : (i : ℕ) → spot_in (packets_in l) i place ≡ spotted.At g n → Stood l g n
+  pub stood : (i : ℕ) → spot_in (packets_in l) i place ≡ Ok s → Stood l s.frame s.place
   stood i e = stood-in i (begun-by l) e
 
 -- ---- the place alone
 
-abbrev pub placed : Spotted → Placed
-placed (spotted.At f n) = at n
-placed (spotted.Refused r) = refused r
+abbrev pub placed : Result Spotted ℕ → Placed
+placed (Ok s) = at s.place
+placed (Err r) = refused r
 
-placed-within : (b : Bool) (f : Frame) (n : ℕ) → placed (cond b (spotted.At f n) (spotted.Refused 24)) ≡ cond b (at n) (refused 24)
+placed-within : (b : Bool) (f : Frame) (n : ℕ) → placed (cond {A = Result Spotted ℕ} b (Ok (record { frame = f; place = n })) (Err 24)) ≡ cond b (at n) (refused 24)
 placed-within true f n = refl
 placed-within false f n = refl
 

@@ -12,17 +12,16 @@ use Rattle.wire.proofs.Cases.{clash}
 use Rattle.wire.proofs.Parts.{rest-is}
 use Rattle.wire.specs.Le.{le_at}
 use Rattle.wire.specs.Be.{be_at}
+use Rattle.refusals.specs.declared.Refusal.{Refusal}
+use Rattle.refusals.specs.Refused.{number, numbered}
 use Rattle.packet.specs.declared.PacketHeader.{PacketHeader}
 use Rattle.packet.specs.declared.PacketType.{PacketType}
-use Rattle.packet.specs.declared.KnownType.{KnownType}
-use Rattle.packet.specs.declared.KnownType.TheVariants.{Known, Unknown}
-use Rattle.packet.specs.declared.Parsed.{Parsed}
-use Rattle.packet.specs.declared.Parsed.TheVariants as parsed
+use Rattle.std.specs.Prelude.{Option, Some, None, Result, Ok, Err}
 use Rattle.packet.specs.Types.{byte_of, types, type_in, type_of}
 use Rattle.packet.specs.Status.{has_bit}
 use Rattle.packet.specs.Header.{header_for, parsed_of}
-use Rattle.payload.specs.declared.frames.Next.TheVariants as next
-use Rattle.payload.specs.Packets.{packet, stop, bad, broken, over, is_part, headed, next_of, packets_from, packets_in}
+use Rattle.payload.specs.declared.frames.Next.{Next}
+use Rattle.payload.specs.Packets.{packet, stop, Stop, bad, broken, over, is_part, headed, next_of, packets_from, packets_in}
 use Rattle.payload.specs.Frames.{is_next, next_length, fault_in, fault_of}
 use Rattle.payload.proofs.CodeReads.{and-true}
 
@@ -35,17 +34,17 @@ is-part h n e =
     (leb-true 9 h.length b.1, leb-true h.length n a.1)
 
 -- by its tests
-tested : (t u : Bool) (m n : ℕ) (b last : Bool) → cond t (cond u (next.Packet m b) (next.Bad 33)) (next.Bad 23) ≡ next.Packet n last → (t ≡ true) × (m ≡ n)
-tested true true m n b last e = (refl, cc)
-tested true false m n b last e = clash (cc)
-tested false u m n b last e = clash (cc)
+tested : (t u : Bool) (p q : Next) → cond t (cond u (Ok p) (Err (bad 33))) (Err (bad 23)) ≡ Ok q → (t ≡ true) × (p ≡ q)
+tested true true p q e = (refl, cc)
+tested true false p q e = clash (cc)
+tested false u p q e = clash (cc)
 
-of-header : (p : Parsed) (number len n : ℕ) (last : Bool) → headed p number len ≡ next.Packet n last → (1 ≤ n) × (8 + n ≤ len)
+of-header : (p : Result PacketHeader ℕ) (number len : ℕ) (q : Next) → headed p number len ≡ Ok q → (1 ≤ q.len) × (8 + q.len ≤ len)
 unfolding headed
-of-header (parsed.Refused r) number len n last e = clash (cc)
-of-header (parsed.Header h) number len n last e =
-    let t = tested (is_part h len) (eqb h.packet_id (number % 256)) (h.length - 8) n _ last e in
-    let q = t.1 in
+of-header (Err r) number len q e = clash (cc)
+of-header (Ok h) number len q e =
+    let t = tested (is_part h len) (eqb h.packet_id (number % 256)) (record { len = h.length - 8; last = has_bit 0x01 h.status.0 }) q e in
+    let z = ap (λ (x : Next). x.len) t.1 in
     let l = is-part h len t.0 in
     (omega arith, omega arith)
 
@@ -59,43 +58,26 @@ skip (suc n) number ended [] = refl
 skip (suc n) number ended (b ∷ l) = skip n number ended l
 
 module _ (number : ℕ) where
-  pub fits : (ended : Bool) (l : List ℕ) {n : ℕ} {last : Bool} → next_of number ended l ≡ next.Packet n last → (1 ≤ n) × (8 + n ≤ length l)
+  pub fits : (ended : Bool) (l : List ℕ) {p : Next} → next_of number ended l ≡ Ok p → (1 ≤ p.len) × (8 + p.len ≤ length l)
   unfolding next_of
-  fits true [] e = clash (cc)
-  fits false [] e = clash (cc)
+  fits ended [] e = clash (cc)
   fits true (b ∷ l) e = clash (cc)
-  fits false (b ∷ l) e = of-header (parsed_of (b ∷ l)) number (length (b ∷ l)) _ _ e
+  fits false (b ∷ l) e = of-header (parsed_of (b ∷ l)) number (length (b ∷ l)) _ e
 
-  pub turn : (ended : Bool) (l : List ℕ) {n : ℕ} {last : Bool} → next_of number ended l ≡ next.Packet n last
-      → packets_from 0 number ended l ≡ packet (take n (drop 8 l)) last (packets_from 0 (number + 1) last (drop (8 + n) l))
+  pub turn : (ended : Bool) (l : List ℕ) {p : Next} → next_of number ended l ≡ Ok p
+      → packets_from 0 number ended l ≡ packet (take p.len (drop 8 l)) p.last (packets_from 0 (number + 1) p.last (drop (8 + p.len) l))
   unfolding next_of packets_from
-  turn true [] e = clash (cc)
-  turn false [] e = clash (cc)
+  turn ended [] e = clash (cc)
   turn true (b ∷ l) e = clash (cc)
-  turn false (b ∷ l) {n} {last} e =
-      let m : 8 + n ≡ suc (n + 7) = omega arith in
-      rw (e, m, skip (n + 7) (number + 1) last l)
+  turn false (b ∷ l) {p} e =
+      let m : 8 + p.len ≡ suc (p.len + 7) = omega arith in
+      rw (e, m, skip (p.len + 7) (number + 1) p.last l)
 
-  pub overs : (ended : Bool) (l : List ℕ) → next_of number ended l ≡ next.Over → packets_from 0 number ended l ≡ stop over
+  pub stops : (ended : Bool) (l : List ℕ) {s : Stop} → next_of number ended l ≡ Err s → packets_from 0 number ended l ≡ stop s
   unfolding next_of packets_from
-  overs true [] e = refl
-  overs false [] e = clash (cc)
-  overs true (b ∷ l) e = clash (cc)
-  overs false (b ∷ l) e = rw e
-
-  pub breaks : (ended : Bool) (l : List ℕ) → next_of number ended l ≡ next.Broken → packets_from 0 number ended l ≡ stop broken
-  unfolding next_of packets_from
-  breaks true [] e = clash (cc)
-  breaks false [] e = refl
-  breaks true (b ∷ l) e = refl
-  breaks false (b ∷ l) e = rw e
-
-  pub bads : (ended : Bool) (l : List ℕ) {n : ℕ} → next_of number ended l ≡ next.Bad n → packets_from 0 number ended l ≡ stop (bad n)
-  unfolding next_of packets_from
-  bads true [] e = clash (cc)
-  bads false [] e = clash (cc)
-  bads true (b ∷ l) e = clash (cc)
-  bads false (b ∷ l) e = rw e
+  stops ended [] e = let z : cond ended over broken ≡ _ = cc in ap stop z
+  stops true (b ∷ l) e = let z : broken ≡ _ = cc in ap stop z
+  stops false (b ∷ l) e = rw e
 
 -- ---- the first packet
 
@@ -112,15 +94,15 @@ none_lent (b ∷ l) h = absurd (omega arith)
 -- ---- what stands at an index, by tests
 
 module _ (l : List ℕ) (at number : ℕ) {ended : Bool} where
-  pub is-over : length l ≤ at → ended ≡ true → next_of number ended (drop at l) ≡ next.Over
+  pub is-over : length l ≤ at → ended ≡ true → next_of number ended (drop at l) ≡ Err over
   unfolding next_of
   is-over h e = rw (drop_of_length-le l h, e)
 
-  pub is-short : length l ≤ at → ended ≡ false → next_of number ended (drop at l) ≡ next.Broken
+  pub is-short : length l ≤ at → ended ≡ false → next_of number ended (drop at l) ≡ Err broken
   unfolding next_of
   is-short h e = rw (drop_of_length-le l h, e)
 
-  pub is-more : at < length l → ended ≡ true → next_of number ended (drop at l) ≡ next.Broken
+  pub is-more : at < length l → ended ≡ true → next_of number ended (drop at l) ≡ Err broken
   unfolding next_of
   is-more h e = rw (drop-cons l at 0 h, e)
 
@@ -130,12 +112,12 @@ module _ (l : List ℕ) (at number : ℕ) {ended : Bool} where
 
 -- ---- a header by its bytes
 
-one_type : (t : PacketType) (ts : List PacketType) (b : ℕ) (test : Bool) → eqb b (byte_of t) ≡ test → {u : PacketType} → (type_in ts b ≡ Known u → b ≡ byte_of u)
-    → cond test (Known t) (type_in ts b) ≡ Known u → b ≡ byte_of u
+one_type : (t : PacketType) (ts : List PacketType) (b : ℕ) (test : Bool) → eqb b (byte_of t) ≡ test → {u : PacketType} → (type_in ts b ≡ Some u → b ≡ byte_of u)
+    → cond test (Some t) (type_in ts b) ≡ Some u → b ≡ byte_of u
 one_type t ts b true q {u} later f = let z : t ≡ u = cc in eqb-true b (byte_of t) q ∙ ap byte_of z
 one_type t ts b false q later f = later f
 
-type-is : (ts : List PacketType) (b : ℕ) {t : PacketType} → type_in ts b ≡ Known t → b ≡ byte_of t
+type-is : (ts : List PacketType) (b : ℕ) {t : PacketType} → type_in ts b ≡ Some t → b ≡ byte_of t
 unfolding type_in
 type-is [] b e = clash (cc)
 type-is (t ∷ ts) b e = one_type t ts b (eqb b (byte_of t)) refl (type-is ts b) e
@@ -147,12 +129,12 @@ record Fields (s : List ℕ) (h : PacketHeader) : Type 0 where
   size : h.length ≡ be_at 2 (drop 2 s)
   id : h.packet_id ≡ le_at 1 (drop 6 s)
 
-fields-by : (s : List ℕ) (short : Bool) (k : KnownType) {h : PacketHeader} → ltb (length s) 8 ≡ short → type_of (le_at 1 s) ≡ k
-    → cond short (parsed.Refused 8) (header_for k s) ≡ parsed.Header h → Fields s h
+fields-by : (s : List ℕ) (short : Bool) (k : Option PacketType) {h : PacketHeader} → ltb (length s) 8 ≡ short → type_of (le_at 1 s) ≡ k
+    → cond short (Err 8) (header_for k s) ≡ Ok h → Fields s h
 unfolding type_of
 fields-by s true k q e f = clash (cc)
-fields-by s false Unknown q e f = clash (cc)
-fields-by s false (Known t) {h} q e f =
+fields-by s false None q e f = clash (cc)
+fields-by s false (Some t) {h} q e f =
     let z : record { packet_type = t; status = record { 0 = le_at 1 (drop 1 s) }; length = be_at 2 (drop 2 s); spid = be_at 2 (drop 4 s); packet_id = le_at 1 (drop 6 s); window = le_at 1 (drop 7 s) } ≡ h = cc in
     record {
       long = ltb-false (length s) 8 q;
@@ -161,7 +143,7 @@ fields-by s false (Known t) {h} q e f =
       id = sym (ap (λ (x : PacketHeader). x.packet_id) z);
     }
 
-fields-of : (s : List ℕ) {h : PacketHeader} → parsed_of s ≡ parsed.Header h → Fields s h
+fields-of : (s : List ℕ) {h : PacketHeader} → parsed_of s ≡ Ok h → Fields s h
 unfolding parsed_of
 fields-of s e = fields-by s (ltb (length s) 8) (type_of (le_at 1 s)) refl refl e
 
@@ -192,7 +174,7 @@ module _ (number : ℕ) (s : List ℕ) where
         within = leb-true size (length s) b.1;
       }
 
-  pub is-next : is_next number s ≡ true → headed (parsed_of s) number (length s) ≡ next.Packet (size - 8) (has_bit 0x01 (le_at 1 (drop 1 s)))
+  pub is-next : is_next number s ≡ true → headed (parsed_of s) number (length s) ≡ Ok (record { len = size - 8; last = has_bit 0x01 (le_at 1 (drop 1 s)) })
   unfolding parsed_of type_of types type_in headed is_part
   is-next e =
       let p = passes e in
@@ -215,59 +197,59 @@ module _ (number : ℕ) (s : List ℕ) where
       let z : leb size (length s) ≡ true = rw (sym f.size) a.1 in
       rw (le-leb 8 (length s) f.long, x, eq-eqb (le_at 1 (drop 6 s)) (number % 256) (sym f.id ∙ u), y, z)
 
-  fault-by : (p : Parsed) → parsed_of s ≡ p → is_next number s ≡ false → headed p number (length s) ≡ next.Bad (fault_in p (length s))
+  fault-by : (p : Result PacketHeader ℕ) → parsed_of s ≡ p → is_next number s ≡ false → headed p number (length s) ≡ Err (bad (fault_in p (length s)))
   unfolding headed
-  fault-by (parsed.Refused r) e f = refl
-  fault-by (parsed.Header h) e f = go (is_part h (length s)) (eqb h.packet_id (number % 256)) refl refl
+  fault-by (Err r) e f = refl
+  fault-by (Ok h) e f = go (is_part h (length s)) (eqb h.packet_id (number % 256)) refl refl
     where
       go : (t u : Bool) → is_part h (length s) ≡ t → eqb h.packet_id (number % 256) ≡ u
-          → cond t (cond u (next.Packet (h.length - 8) (has_bit 0x01 h.status.0)) (next.Bad 33)) (next.Bad 23) ≡ next.Bad (cond t 33 23)
+          → cond {A = Result Next Stop} t (cond u (Ok (record { len = h.length - 8; last = has_bit 0x01 h.status.0 })) (Err (bad 33))) (Err (bad 23)) ≡ Err (bad (cond t 33 23))
       go true true q v = let z = next-by (fields-of s e) q (eqb-true h.packet_id (number % 256) v) in clash (cc)
       go true false q v = refl
       go false u q v = refl
 
-  pub is-fault : is_next number s ≡ false → headed (parsed_of s) number (length s) ≡ next.Bad (fault_of s)
+  pub is-fault : is_next number s ≡ false → headed (parsed_of s) number (length s) ≡ Err (bad (fault_of s))
   unfolding fault_of
   is-fault e = fault-by (parsed_of s) refl e
 
   -- by the length that was told
-  none-by : (b : Bool) {n : ℕ} → is_next number s ≡ b → n ≡ cond b size 0 → n ≡ 0 → is_next number s ≡ false
-  none-by true e q z = absurd (omega (arith, (passes e).some, q))
+  none-by : (b : Bool) {o : Option ℕ} → is_next number s ≡ b → o ≡ cond b (Some size) None → o ≡ None → is_next number s ≡ false
+  none-by true e q z = clash (cc)
   none-by false e q z = e
 
-  some-by : (b : Bool) {n : ℕ} → is_next number s ≡ b → n ≡ cond b size 0 → (n ≡ 0 → ⊥) → (is_next number s ≡ true) × (n ≡ size)
-  some-by true e q z = (e, q)
-  some-by false e q z = absurd (z q)
+  some-by : (b : Bool) {o : Option ℕ} {n : ℕ} → is_next number s ≡ b → o ≡ cond b (Some size) None → o ≡ Some n → (is_next number s ≡ true) × (n ≡ size)
+  some-by true e q z = (e, cc)
+  some-by false e q z = clash (cc)
 
-  told_none : {n : ℕ} → n ≡ next_length number s → n ≡ 0 → is_next number s ≡ false
+  told_none : {o : Option ℕ} → o ≡ next_length number s → o ≡ None → is_next number s ≡ false
   unfolding next_length
   told_none q z = none-by (is_next number s) refl q z
 
-  told-some : {n : ℕ} → n ≡ next_length number s → (n ≡ 0 → ⊥) → (is_next number s ≡ true) × (n ≡ size)
+  told-some : {o : Option ℕ} {n : ℕ} → o ≡ next_length number s → o ≡ Some n → (is_next number s ≡ true) × (n ≡ size)
   unfolding next_length
   told-some q z = some-by (is_next number s) refl q z
 
   -- a packet's length is 9 or more
-  pub next-size : {n : ℕ} → n ≡ next_length number s → (n ≡ 0 → ⊥) → 9 ≤ n
+  pub next-size : {o : Option ℕ} {n : ℕ} → o ≡ next_length number s → o ≡ Some n → 9 ≤ n
   next-size q z = let t = told-some q z in omega (arith, (passes t.0).some, t.1)
 
 -- the fault by what was read
-module _ (s : List ℕ) where
-  pub fault-none : {r : ℕ} → parsed_of s ≡ parsed.Refused r → r ≡ fault_of s
+module _ (s : List ℕ) {r : Result PacketHeader Refusal} (q : numbered r ≡ parsed_of s) where
+  pub fault-none : {x : Refusal} → r ≡ Err x → number x ≡ fault_of s
   unfolding fault_of
-  fault-none e = rw e
+  fault-none e = rw (sym q, e)
 
-  pub fault-next : {h : PacketHeader} → parsed_of s ≡ parsed.Header h → is_part h (length s) ≡ true → 33 ≡ fault_of s
+  pub fault-next : {h : PacketHeader} → r ≡ Ok h → is_part h (length s) ≡ true → 33 ≡ fault_of s
   unfolding fault_of
-  fault-next e t = rw (e, t)
+  fault-next e t = rw (sym q, e, t)
 
-  pub fault-no-part : {h : PacketHeader} → parsed_of s ≡ parsed.Header h → is_part h (length s) ≡ false → 23 ≡ fault_of s
+  pub fault-no-part : {h : PacketHeader} → r ≡ Ok h → is_part h (length s) ≡ false → 23 ≡ fault_of s
   unfolding fault_of
-  fault-no-part e t = rw (e, t)
+  fault-no-part e t = rw (sym q, e, t)
 
 -- a header that passes, by its fields
-pub is-packet : (number n : ℕ) {p : Parsed} {h : PacketHeader} → p ≡ parsed.Header h → is_part h n ≡ true → h.packet_id ≡ number % 256
-    → headed p number n ≡ next.Packet (h.length - 8) (has_bit 0x01 h.status.0)
+pub is-packet : (number n : ℕ) {p : Result PacketHeader ℕ} {h : PacketHeader} → p ≡ Ok h → is_part h n ≡ true → h.packet_id ≡ number % 256
+    → headed p number n ≡ Ok (record { len = h.length - 8; last = has_bit 0x01 h.status.0 })
 unfolding headed
 is-packet number n {h = h} e t u = rw (e, t, eq-eqb h.packet_id (number % 256) u)
 
@@ -277,11 +259,11 @@ module _ (l : List ℕ) (at number : ℕ) {ended : Bool} (h : at < length l) (e 
   abbrev from : List ℕ
   from = take (length l - at) (drop at l)
 
-  pub index-fault : {n r : ℕ} → n ≡ next_length number from → n ≡ 0 → r ≡ fault_of from → next.Bad r ≡ next_of number ended (drop at l)
+  pub index-fault : {o : Option ℕ} {r : ℕ} → o ≡ next_length number from → o ≡ None → r ≡ fault_of from → Err (bad r) ≡ next_of number ended (drop at l)
   index-fault t k q = let z = rest-is l at in sym (is-headed l at number h e ∙ is-fault number (drop at l) (rw (sym z) (told_none number from t k)) ∙ rw (sym z, sym q))
 
-  pub index-next : {n : ℕ} {last : Bool} → n ≡ next_length number from → (n ≡ 0 → ⊥) → last ≡ has_bit 0x01 (le_at 1 (drop 1 from))
-      → next.Packet (n - 8) last ≡ next_of number ended (drop at l)
+  pub index-next : {o : Option ℕ} {n : ℕ} {last : Bool} → o ≡ next_length number from → o ≡ Some n → last ≡ has_bit 0x01 (le_at 1 (drop 1 from))
+      → Ok (record { len = n - 8; last = last }) ≡ next_of number ended (drop at l)
   index-next t k b =
       let z = rest-is l at in
       let u = told-some number from t k in

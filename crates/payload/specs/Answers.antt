@@ -1,21 +1,20 @@
 -- The answers of the functions that read a number or a part, from what reading comes to. Rests on Places.
-use Rattle.std.specs.Prelude.{ℕ, ◌<◌, ◌^◌}
+use Rattle.std.specs.Prelude.{ℕ, ◌<◌, ◌^◌, Result, Ok, Err}
+use Rattle.refusals.specs.declared.Refusal.{Refusal}
 use Rattle.wire.specs.declared.Part.{Part}
-use Rattle.payload.specs.declared.NumberRead.{NumberRead}
-use Rattle.payload.specs.declared.NumberRead.TheVariants as number
-use Rattle.payload.specs.declared.PartRead.{PartRead}
-use Rattle.payload.specs.declared.PartRead.TheVariants as part
+use Rattle.payload.specs.declared.NumberAt.{NumberAt}
+use Rattle.payload.specs.declared.PartAt.{PartAt}
 use Rattle.payload.specs.Places.{Read, whole, refused}
 
-abbrev pub number_read : Read ℕ → NumberRead
-number_read (whole n at) = number.Whole (record { value = n; next = at })
-number_read (refused r) = number.Refused r
+abbrev pub number_read : Read ℕ → Result NumberAt ℕ
+number_read (whole n at) = Ok (record { value = n; next = at })
+number_read (refused r) = Err r
 
-abbrev pub part_read : Read Part → PartRead
-part_read (whole p at) = part.Whole (record { part = p; next = at })
-part_read (refused r) = part.Refused r
+abbrev pub part_read : Read Part → Result PartAt ℕ
+part_read (whole p at) = Ok (record { part = p; next = at })
+part_read (refused r) = Err r
 
 -- a number that was read fits k bytes
-abbrev pub Below : ℕ → NumberRead → Type 0
-Below k (number.Whole n) = n.value < 256 ^ k
-Below k (number.Refused r) = Unit {0}
+abbrev pub Below : ℕ → Result NumberAt Refusal → Type 0
+Below k (Ok n) = n.value < 256 ^ k
+Below k (Err r) = Unit {0}

@@ -1,14 +1,11 @@
 -- The packets of a reply in lent bytes, in their order as far as their headers pass (document 02, 2026-02). Rests on packet's header.
-use Rattle.std.specs.Prelude.{ℕ, zero, suc, ◌+◌, ◌-◌, ◌%◌, Bool, false, cond, ◌&&◌, List, [], ◌∷◌, ◌++◌, eqb, leb, length, take, drop}
+use Rattle.std.specs.Prelude.{ℕ, zero, suc, ◌+◌, ◌-◌, ◌%◌, Bool, false, cond, ◌&&◌, List, [], ◌∷◌, ◌++◌, eqb, leb, length, take, drop, Result, Ok, Err}
 use Rattle.refusals.specs.Numbers.{header_too_short, not_reply, not_next, cut_short, end_bit_wrong}
 use Rattle.packet.specs.declared.PacketHeader.{PacketHeader}
-use Rattle.packet.specs.declared.Parsed.{Parsed}
-use Rattle.packet.specs.declared.Parsed.TheVariants as parsed
 use Rattle.packet.specs.Types.{byte_of}
 use Rattle.packet.specs.Status.{has_bit}
 use Rattle.packet.specs.Header.{parsed_of}
 use Rattle.payload.specs.declared.frames.Next.{Next}
-use Rattle.payload.specs.declared.frames.Next.TheVariants as next
 use Rattle.payload.specs.Places.{Source}
 
 -- what stands after the last packet that passes
@@ -31,24 +28,22 @@ is_part h n = eqb (byte_of h.packet_type) 0x04 && leb 9 h.length && leb h.length
 
 -- what a header begins that is to be the number-th from 1, where n bytes are lent from it on: 23, then 33. A header's number is
 -- one byte, so that 0 follows 255
-unfoldable pub headed : Parsed → ℕ → ℕ → Next
-headed (parsed.Refused r) number n = next.Bad r
-headed (parsed.Header h) number n =
+unfoldable pub headed : Result PacketHeader ℕ → ℕ → ℕ → Result Next Stop
+headed (Err r) number n = Err (bad r)
+headed (Ok h) number n =
     cond (is_part h n)
-    (cond (eqb h.packet_id (number % 256)) (next.Packet (h.length - 8) (has_bit 0x01 h.status.0)) (next.Bad not_next))
-    (next.Bad not_reply)
+    (cond (eqb h.packet_id (number % 256)) (Ok (record { len = h.length - 8; last = has_bit 0x01 h.status.0 })) (Err (bad not_next)))
+    (Err (bad not_reply))
 
 -- what stands at the front of bytes after a packet that had the end bit or not
-unfoldable pub next_of : ℕ → Bool → List ℕ → Next
-next_of number ended [] = cond ended next.Over next.Broken
-next_of number ended (b ∷ l) = cond ended next.Broken (headed (parsed_of (b ∷ l)) number (length (b ∷ l)))
+unfoldable pub next_of : ℕ → Bool → List ℕ → Result Next Stop
+next_of number ended [] = Err (cond ended over broken)
+next_of number ended (b ∷ l) = cond ended (Err broken) (headed (parsed_of (b ∷ l)) number (length (b ∷ l)))
 
 -- the packets that it begins in the bytes l; go reads on after a packet, past the rest of it
-abbrev pub begun : Next → List ℕ → (ℕ → Bool → Packets) → Packets
-begun (next.Packet n last) l go = packet (take n (drop 8 l)) last (go (n + 7) last)
-begun next.Over l go = stop over
-begun next.Broken l go = stop broken
-begun (next.Bad r) l go = stop (bad r)
+abbrev pub begun : Result Next Stop → List ℕ → (ℕ → Bool → Packets) → Packets
+begun (Ok p) l go = packet (take p.len (drop 8 l)) p.last (go (p.len + 7) p.last)
+begun (Err s) l go = stop s
 
 -- the packets from the number-th on, after one that had the end bit or not; the first bytes, the rest of it, are passed over
 unfoldable pub packets_from : ℕ → ℕ → Bool → List ℕ → Packets

@@ -1,11 +1,14 @@
 // Where packets lie in lent bytes (document 02, 2026-02): the walk from one packet to the next, a position's place in the
 // payload, and the packet that a payload place lies in. No other crate knows how a place moves past a header.
 ghost use Rattle.std.specs.Prelude.{◌≡◌, true, false, ◌+◌, ◌*◌, ◌≤◌, ◌<◌, leb, length, drop};
-ghost use Rattle.payload.specs.Packets.{is_part, next_of, packets_in};
+ghost use Rattle.refusals.specs.Refused.{number, numbered};
+ghost use Rattle.payload.specs.Packets.{is_part, next_of, packets_in, refusal_at};
+ghost use Rattle.payload.specs.Positions.{lost_at};
+ghost use Rattle.payload.specs.Stopped.{stop_by, stopped};
 ghost use Rattle.payload.specs.Frames.{lies, next_length, fault_of, moved_of, first_of, spot_in, within_frame, body_frame, nowhere_of, reach_of, frame_at};
 
-use packet::{PACKET_HEADER_SIZE, PacketHeader, PacketStatus, PacketType, Parsed};
-use refusals::{CUT, END_BIT_WRONG, HEADER_TOO_SHORT, NOT_A_REPLY, NOT_THE_NEXT};
+use packet::{PACKET_HEADER_SIZE, PacketHeader, PacketStatus, PacketType};
+use refusals::Refusal;
 
 // A packet in lent bytes: the payload places of its first byte and after its last, its number from 1, and whether the end bit
 // is on it. Its payload byte n stands at index n + 8 * number of the lent bytes. A request's body is a frame of number 0.
@@ -17,36 +20,52 @@ pub struct Frame {
     pub last: bool,
 }
 
-// What stands where a packet may begin: a packet of some payload bytes, with the end bit or not; or why there is none.
+// A packet that begins where one may: how many payload bytes it has, and whether the end bit is on it.
 #[derive(Clone, Copy)]
-pub enum Next {
-    Packet { len: usize, last: bool },
+pub struct Next {
+    pub len: usize,
+    pub last: bool,
+}
+
+// Why no packet begins there: nothing follows an end bit; bytes follow one, or none follow and there is no end bit; or the
+// header is not that of the next packet.
+#[derive(Clone, Copy, PartialEq, Eq, Debug)]
+pub enum Stop {
     Over,
     Broken,
-    Bad(u8),
+    Bad(Refusal),
 }
 
-// What follows a frame.
-#[derive(Clone, Copy)]
-pub enum Moved {
-    To(Frame),
-    Over,
-    Broken,
-    Bad(u8),
+impl Stop {
+    // The refusal of a position that is past the packets.
+    fn lost(self) -> Refusal
+        ensures { number result ≡ lost_at (stop_by self) }
+    {
+        match self {
+            Stop::Over | Stop::Broken => Refusal::Cut,
+            Stop::Bad(refusal) => refusal,
+        }
+    }
 }
 
-// A payload place, with the packet that it lies in; or the refusal of a position.
-#[derive(Clone, Copy)]
-pub enum Spotted {
-    At(Frame, usize),
-    Refused(u8),
+// The refusal of a step that must read on past the packets.
+impl From<Stop> for Refusal {
+    ghost from_gives = { λ stop refusal. number refusal ≡ refusal_at (stop_by stop) };
+
+    fn from(stop: Stop) -> Refusal {
+        match stop {
+            Stop::Over => Refusal::Cut,
+            Stop::Broken => Refusal::EndBitWrong,
+            Stop::Bad(refusal) => refusal,
+        }
+    }
 }
 
-// The packet of the byte before a payload place; or the refusal of reading on, where the payload ends before it.
+// A payload place, with the packet that it lies in.
 #[derive(Clone, Copy)]
-pub enum Reached {
-    In(Frame),
-    Past(u8),
+pub struct Spotted {
+    pub frame: Frame,
+    pub place: usize,
 }
 
 // All of a request's body.
@@ -82,35 +101,34 @@ pub(crate) fn ends_within(frame: Frame, at: usize, n: usize) -> bool
 }
 
 // What stands at an index of the lent bytes, where the number-th packet is to begin.
-fn packet_at(lent: &[u8], at: usize, number: usize, ended: bool) -> Next
-    ensures { result ≡ next_of number ended (drop at lent.now) }
+fn packet_at(lent: &[u8], at: usize, number: usize, ended: bool) -> Result<Next, Stop>
+    ensures { stopped result ≡ next_of number ended (drop at lent.now) }
 {
     if lent.len() <= at {
         if ended {
-            return Next::Over;
+            return Err(Stop::Over);
         }
-        return Next::Broken;
+        return Err(Stop::Broken);
     }
     if ended {
-        return Next::Broken;
+        return Err(Stop::Broken);
     }
     let rest = &lent[at..];
-    let length = next_length(rest, number);
-    if length == 0 {
-        return Next::Bad(fault_in(rest));
-    }
-    Next::Packet {
+    let Some(length) = next_length(rest, number) else {
+        return Err(Stop::Bad(fault_in(rest)));
+    };
+    Ok(Next {
         len: length - PACKET_HEADER_SIZE,
         last: PacketStatus::is_end_of_message(PacketStatus(wire::get_u8(rest, 1))),
-    }
+    })
 }
 
-// The length of the number-th packet of a reply, where it begins some bytes that hold all of it; else 0.
-fn next_length(rest: &[u8], number: usize) -> usize
+// The length of the number-th packet of a reply, where it begins some bytes that hold all of it.
+fn next_length(rest: &[u8], number: usize) -> Option<usize>
     ensures { result ≡ next_length number rest.now }
 {
     if rest.len() < PACKET_HEADER_SIZE {
-        return 0;
+        return None;
     }
     let length = wire::get_u16(rest, 2) as usize;
     if (rest[0] == 0x04)
@@ -118,22 +136,22 @@ fn next_length(rest: &[u8], number: usize) -> usize
         & (9 <= length)
         & (length <= rest.len())
     {
-        return length;
+        return Some(length);
     }
-    0
+    None
 }
 
 // Why no packet begins some bytes, where the next one does not.
-fn fault_in(rest: &[u8]) -> u8
-    ensures { result ≡ fault_of rest.now }
+fn fault_in(rest: &[u8]) -> Refusal
+    ensures { number result ≡ fault_of rest.now }
 {
     match PacketHeader::parse(rest) {
-        Parsed::Refused(n) => n,
-        Parsed::Header(header) => {
+        Err(refusal) => refusal,
+        Ok(header) => {
             if is_part(header, rest.len()) {
-                NOT_THE_NEXT
+                Refusal::NotTheNext
             } else {
-                NOT_A_REPLY
+                Refusal::NotAReply
             }
         },
     }
@@ -150,54 +168,44 @@ fn is_part(header: PacketHeader, lent: usize) -> bool
 }
 
 // The first packet.
-pub(crate) fn first(lent: &[u8]) -> Moved
-    ensures { result ≡ first_of lent.now }
+pub(crate) fn first(lent: &[u8]) -> Result<Frame, Stop>
+    ensures { stopped result ≡ first_of lent.now }
 {
     if lent.len() == 0 {
-        return Moved::Bad(HEADER_TOO_SHORT);
+        return Err(Stop::Bad(Refusal::HeaderTooShort));
     }
-    match packet_at(lent, 0, 1, false) {
-        Next::Packet { len, last } => Moved::To(Frame {
-            base: 0,
-            end: len,
-            number: 1,
-            last,
-        }),
-        Next::Over => Moved::Over,
-        Next::Broken => Moved::Broken,
-        Next::Bad(n) => Moved::Bad(n),
-    }
+    let next = packet_at(lent, 0, 1, false)?;
+    Ok(Frame {
+        base: 0,
+        end: next.len,
+        number: 1,
+        last: next.last,
+    })
 }
 
 // The packet after a frame's.
-pub(crate) fn onward(lent: &[u8], frame: Frame) -> Moved
+pub(crate) fn onward(lent: &[u8], frame: Frame) -> Result<Frame, Stop>
     requires { lies lent.now frame ≡ true }
-    ensures { result ≡ moved_of lent.now frame }
+    ensures { stopped result ≡ moved_of lent.now frame }
 {
-    let end = frame.end;
+    let base = frame.end;
     let number = frame.number + 1;
-    match packet_at(lent, end + 8 * frame.number, number, frame.last) {
-        Next::Packet { len, last } => Moved::To(Frame {
-            base: end,
-            end: end + len,
-            number,
-            last,
-        }),
-        Next::Over => Moved::Over,
-        Next::Broken => Moved::Broken,
-        Next::Bad(n) => Moved::Bad(n),
-    }
+    let next = packet_at(lent, base + 8 * frame.number, number, frame.last)?;
+    Ok(Frame {
+        base,
+        end: base + next.len,
+        number,
+        last: next.last,
+    })
 }
 
 // The payload place of a position's packet and place in it: the headers up to that packet are tested, each once.
-pub fn resolve(lent: &[u8], packet: usize, place: usize) -> Spotted
-    ensures { result ≡ spot_in (packets_in lent.now) packet place }
+pub fn resolve(lent: &[u8], packet: usize, place: usize) -> Result<Spotted, Refusal>
+    ensures { numbered result ≡ spot_in (packets_in lent.now) packet place }
 {
     let front = match first(lent) {
-        Moved::To(f) => f,
-        Moved::Over => return Spotted::Refused(CUT),
-        Moved::Broken => return Spotted::Refused(CUT),
-        Moved::Bad(n) => return Spotted::Refused(n),
+        Ok(front) => front,
+        Err(stop) => return Err(stop.lost()),
     };
     // A packet is known here by the index of its header and that of the next one.
     let mut start = 0;
@@ -206,19 +214,17 @@ pub fn resolve(lent: &[u8], packet: usize, place: usize) -> Spotted
     let mut last = front.last;
     while number < packet {
         match packet_at(lent, at, number + 1, last) {
-            Next::Packet { len, last: ends } => {
+            Ok(next) => {
                 start = at;
-                at = at + PACKET_HEADER_SIZE + len;
+                at = at + PACKET_HEADER_SIZE + next.len;
                 number += 1;
-                last = ends;
+                last = next.last;
             },
-            Next::Over => return Spotted::Refused(CUT),
-            Next::Broken => return Spotted::Refused(CUT),
-            Next::Bad(n) => return Spotted::Refused(n),
+            Err(stop) => return Err(stop.lost()),
         }
     }
     if packet == 0 {
-        return Spotted::Refused(CUT);
+        return Err(Refusal::Cut);
     }
     let frame = Frame {
         base: start - 8 * (number - 1),
@@ -230,22 +236,25 @@ pub fn resolve(lent: &[u8], packet: usize, place: usize) -> Spotted
 }
 
 // A place in a frame's packet, counted from the packet's first byte.
-fn within(frame: Frame, place: usize) -> Spotted
+fn within(frame: Frame, place: usize) -> Result<Spotted, Refusal>
     requires { frame.base ≤ frame.end }
-    ensures { result ≡ within_frame frame place }
+    ensures { numbered result ≡ within_frame frame place }
 {
     if place < PACKET_HEADER_SIZE {
-        return Spotted::Refused(CUT);
+        return Err(Refusal::Cut);
     }
     if frame.end - frame.base < place - PACKET_HEADER_SIZE {
-        return Spotted::Refused(CUT);
+        return Err(Refusal::Cut);
     }
-    Spotted::At(frame, frame.base + (place - PACKET_HEADER_SIZE))
+    Ok(Spotted {
+        frame,
+        place: frame.base + (place - PACKET_HEADER_SIZE),
+    })
 }
 
 // The packet in which n bytes from a payload place on end, from a frame on; or the refusal of reading them.
-pub fn reach(lent: &[u8], frame: Frame, at: usize, n: usize) -> Reached
-    ensures { result ≡ reach_of lent.now frame (at + n) }
+pub fn reach(lent: &[u8], frame: Frame, at: usize, n: usize) -> Result<Frame, Refusal>
+    ensures { numbered result ≡ reach_of lent.now frame (at + n) }
 {
     if !lies(lent, frame) {
         return nowhere(frame, at, n);
@@ -254,32 +263,25 @@ pub fn reach(lent: &[u8], frame: Frame, at: usize, n: usize) -> Reached
 }
 
 // The same from a frame that the lent bytes have.
-pub(crate) fn walk(lent: &[u8], frame: Frame, at: usize, n: usize) -> Reached
+pub(crate) fn walk(lent: &[u8], frame: Frame, at: usize, n: usize) -> Result<Frame, Refusal>
     requires { lies lent.now frame ≡ true }
-    ensures { result ≡ reach_of lent.now frame (at + n) }
+    ensures { numbered result ≡ reach_of lent.now frame (at + n) }
 {
     let mut here = frame;
     while !ends_within(here, at, n) {
-        match onward(lent, here) {
-            Moved::To(next) => {
-                here = next;
-            },
-            Moved::Over => return Reached::Past(CUT),
-            Moved::Broken => return Reached::Past(END_BIT_WRONG),
-            Moved::Bad(r) => return Reached::Past(r),
-        }
+        here = onward(lent, here)?;
     }
-    Reached::In(here)
+    Ok(here)
 }
 
 // From a frame that the lent bytes do not have, nothing is read.
-fn nowhere(frame: Frame, at: usize, n: usize) -> Reached
-    ensures { result ≡ nowhere_of frame (at + n) }
+fn nowhere(frame: Frame, at: usize, n: usize) -> Result<Frame, Refusal>
+    ensures { numbered result ≡ nowhere_of frame (at + n) }
 {
     if (at == 0) & (n == 0) {
-        return Reached::In(frame);
+        return Ok(frame);
     }
-    Reached::Past(CUT)
+    Err(Refusal::Cut)
 }
 
 // The packet of the byte before a payload place, from a frame on; the same frame where the payload ends before it.
@@ -289,8 +291,5 @@ pub fn frame_at(lent: &[u8], frame: Frame, at: usize) -> Frame
     if at <= frame.end {
         return frame;
     }
-    match reach(lent, frame, at, 0) {
-        Reached::In(here) => here,
-        Reached::Past(_) => frame,
-    }
+    reach(lent, frame, at, 0).unwrap_or(frame)
 }

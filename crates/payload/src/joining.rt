@@ -2,64 +2,63 @@
 // twice, once to test and measure, once to copy.
 ghost use Rattle.std.specs.Prelude.{◌≡◌, true, ◌+◌, ◌-◌, ◌*◌, ◌≤◌, length, take, drop};
 ghost use Rattle.wire.specs.Over.{overwrite};
+ghost use Rattle.refusals.specs.Refused.{numbered};
 ghost use Rattle.payload.specs.Packets.{packets_in, payload_of};
+ghost use Rattle.payload.specs.Stopped.{stop_by};
 ghost use Rattle.payload.specs.Frames.{lies};
-ghost use Rattle.payload.specs.Join.{fitted_in, joined_of, joined_buffer};
+ghost use Rattle.payload.specs.Join.{fitted_in, joined_by, joined_of, joined_buffer};
 
-use crate::frames::{Frame, Moved, first, onward};
-use refusals::{BUFFER_TOO_SHORT, END_BIT_WRONG};
+use crate::frames::{Frame, Stop, first, onward};
+use refusals::Refusal;
 
-// How many payload bytes were written to the buffer's front; or what stops the packets, then 20 where the buffer is too short.
-#[derive(Clone, Copy)]
-pub enum Joined {
-    Written(usize),
-    Refused(u8),
-}
-
-// The payload of the packets that end as they should, at the buffer's front. A refusal leaves the buffer as it was.
-pub fn join(lent: &[u8], buf: &mut [u8]) -> Joined
-    ensures value { result ≡ joined_of lent.now (length buf.old) }
+// The payload of the packets that end as they should, at the buffer's front, and how many bytes it has; or what stops the
+// packets, then 20 where the buffer is too short. A refusal leaves the buffer as it was.
+pub fn join(lent: &[u8], buf: &mut [u8]) -> Result<usize, Refusal>
+    ensures value { numbered result ≡ joined_of lent.now (length buf.old) }
     ensures buf_after { buf.new ≡ joined_buffer lent.now buf.old }
 {
-    match measured(lent, buf.len()) {
-        Joined::Refused(n) => Joined::Refused(n),
-        Joined::Written(n) => {
-            copy_payload(lent, buf);
-            Joined::Written(n)
-        },
-    }
+    let n = measured(lent, buf.len())?;
+    copy_payload(lent, buf);
+    Ok(n)
 }
 
 // What joining answers where so many bytes are lent for the payload.
-fn measured(lent: &[u8], room: usize) -> Joined
-    ensures { result ≡ joined_of lent.now room }
+fn measured(lent: &[u8], room: usize) -> Result<usize, Refusal>
+    ensures { numbered result ≡ joined_of lent.now room }
 {
     let mut frame = match first(lent) {
-        Moved::To(f) => f,
-        Moved::Over => return fitted(0, room),
-        Moved::Broken => return Joined::Refused(END_BIT_WRONG),
-        Moved::Bad(n) => return Joined::Refused(n),
+        Ok(front) => front,
+        Err(stop) => return ended(stop, 0, room),
     };
     loop {
         match onward(lent, frame) {
-            Moved::To(next) => {
+            Ok(next) => {
                 frame = next;
             },
-            Moved::Over => return fitted(frame.end, room),
-            Moved::Broken => return Joined::Refused(END_BIT_WRONG),
-            Moved::Bad(n) => return Joined::Refused(n),
+            Err(stop) => return ended(stop, frame.end, room),
         }
     }
 }
 
+// A payload of n bytes, by what stands after its packets, where so many bytes are lent for it.
+fn ended(stop: Stop, n: usize, room: usize) -> Result<usize, Refusal>
+    ensures { numbered result ≡ joined_by (stop_by stop) n room }
+{
+    match stop {
+        Stop::Over => fitted(n, room),
+        Stop::Broken => Err(Refusal::EndBitWrong),
+        Stop::Bad(refusal) => Err(refusal),
+    }
+}
+
 // A payload of n bytes that is whole, where so many bytes are lent for it.
-fn fitted(n: usize, room: usize) -> Joined
-    ensures { result ≡ fitted_in n room }
+fn fitted(n: usize, room: usize) -> Result<usize, Refusal>
+    ensures { numbered result ≡ fitted_in n room }
 {
     if room < n {
-        return Joined::Refused(BUFFER_TOO_SHORT);
+        return Err(Refusal::BufferTooShort);
     }
-    Joined::Written(n)
+    Ok(n)
 }
 
 // The payload at the buffer's front, packet by packet; what has no room there is left out.
@@ -67,20 +66,16 @@ fn copy_payload(lent: &[u8], buf: &mut [u8])
     ensures { buf.new ≡ overwrite buf.old 0 (payload_of (packets_in lent.now)) }
 {
     let mut frame = match first(lent) {
-        Moved::To(f) => f,
-        Moved::Over => return,
-        Moved::Broken => return,
-        Moved::Bad(_) => return,
+        Ok(front) => front,
+        Err(_) => return,
     };
     loop {
         copy_packet(lent, frame, buf);
         match onward(lent, frame) {
-            Moved::To(next) => {
+            Ok(next) => {
                 frame = next;
             },
-            Moved::Over => return,
-            Moved::Broken => return,
-            Moved::Bad(_) => return,
+            Err(_) => return,
         }
     }
 }

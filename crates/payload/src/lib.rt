@@ -6,12 +6,13 @@ pub mod frames;
 pub mod joining;
 
 ghost use Rattle.std.specs.Prelude.{◌≡◌, ◌&&◌, ◌+◌, ◌-◌, ◌*◌, ◌≤◌, ◌<◌, ◌^◌, leb};
+ghost use Rattle.refusals.specs.Refused.{numbered};
 ghost use Rattle.payload.specs.Places.{whole, number_at, part_at};
 ghost use Rattle.payload.specs.Frames.{lies, source_from};
 ghost use Rattle.payload.specs.Answers.{number_read, part_read, Below};
 
-use frames::{Frame, Reached, ends_within, lies, reach, walk};
-use refusals::CUT;
+use frames::{Frame, ends_within, lies, reach, walk};
+use refusals::Refusal;
 use wire::Part;
 
 // A number, with the place after it.
@@ -21,12 +22,6 @@ pub struct NumberAt {
     pub next: usize,
 }
 
-#[derive(Clone, Copy)]
-pub enum NumberRead {
-    Whole(NumberAt),
-    Refused(u8),
-}
-
 // A part, with the place after it.
 #[derive(Clone, Copy)]
 pub struct PartAt {
@@ -34,56 +29,50 @@ pub struct PartAt {
     pub next: usize,
 }
 
-#[derive(Clone, Copy)]
-pub enum PartRead {
-    Whole(PartAt),
-    Refused(u8),
-}
-
 // The number at a place, of one byte, of two, four or eight, the lowest first.
-pub fn u8_at(lent: &[u8], frame: Frame, at: usize) -> NumberRead
-    ensures { (result ≡ number_read (number_at 1 (source_from lent.now frame) at whole)) × Below 1 result }
+pub fn u8_at(lent: &[u8], frame: Frame, at: usize) -> Result<NumberAt, Refusal>
+    ensures { (numbered result ≡ number_read (number_at 1 (source_from lent.now frame) at whole)) × Below 1 result }
 {
     if !holds(lent, frame, at, 1) {
         return number_across(lent, frame, at, 1);
     }
-    NumberRead::Whole(NumberAt {
+    Ok(NumberAt {
         value: wide(lent[at + 8 * frame.number]),
         next: at + 1,
     })
 }
 
-pub fn u16_at(lent: &[u8], frame: Frame, at: usize) -> NumberRead
-    ensures { (result ≡ number_read (number_at 2 (source_from lent.now frame) at whole)) × Below 2 result }
+pub fn u16_at(lent: &[u8], frame: Frame, at: usize) -> Result<NumberAt, Refusal>
+    ensures { (numbered result ≡ number_read (number_at 2 (source_from lent.now frame) at whole)) × Below 2 result }
 {
     if !holds(lent, frame, at, 2) {
         return number_across(lent, frame, at, 2);
     }
-    NumberRead::Whole(NumberAt {
+    Ok(NumberAt {
         value: wire::get_u16_le(lent, at + 8 * frame.number) as u64,
         next: at + 2,
     })
 }
 
-pub fn u32_at(lent: &[u8], frame: Frame, at: usize) -> NumberRead
-    ensures { (result ≡ number_read (number_at 4 (source_from lent.now frame) at whole)) × Below 4 result }
+pub fn u32_at(lent: &[u8], frame: Frame, at: usize) -> Result<NumberAt, Refusal>
+    ensures { (numbered result ≡ number_read (number_at 4 (source_from lent.now frame) at whole)) × Below 4 result }
 {
     if !holds(lent, frame, at, 4) {
         return number_across(lent, frame, at, 4);
     }
-    NumberRead::Whole(NumberAt {
+    Ok(NumberAt {
         value: wire::get_u32_le(lent, at + 8 * frame.number) as u64,
         next: at + 4,
     })
 }
 
-pub fn u64_at(lent: &[u8], frame: Frame, at: usize) -> NumberRead
-    ensures { (result ≡ number_read (number_at 8 (source_from lent.now frame) at whole)) × Below 8 result }
+pub fn u64_at(lent: &[u8], frame: Frame, at: usize) -> Result<NumberAt, Refusal>
+    ensures { (numbered result ≡ number_read (number_at 8 (source_from lent.now frame) at whole)) × Below 8 result }
 {
     if !holds(lent, frame, at, 8) {
         return number_across(lent, frame, at, 8);
     }
-    NumberRead::Whole(NumberAt {
+    Ok(NumberAt {
         value: wire::get_u64_le(lent, at + 8 * frame.number),
         next: at + 8,
     })
@@ -100,27 +89,20 @@ fn holds(lent: &[u8], frame: Frame, at: usize, n: usize) -> bool
 }
 
 // A number of k bytes that its frame does not hold whole: each byte's packet is found from that of the byte before it.
-fn number_across(lent: &[u8], frame: Frame, at: usize, k: usize) -> NumberRead
+fn number_across(lent: &[u8], frame: Frame, at: usize, k: usize) -> Result<NumberAt, Refusal>
     requires { (1 ≤ k) × (k ≤ 8) }
-    ensures { (result ≡ number_read (number_at k (source_from lent.now frame) at whole)) × Below k result }
+    ensures { (numbered result ≡ number_read (number_at k (source_from lent.now frame) at whole)) × Below k result }
 {
     if !lies(lent, frame) {
-        return NumberRead::Refused(CUT);
+        return Err(Refusal::Cut);
     }
     let mut here = frame;
     let mut value: u64 = 0;
-    let mut i = 0;
-    while i < k {
-        match walk(lent, here, at + i, 1) {
-            Reached::Past(n) => return NumberRead::Refused(n),
-            Reached::In(next) => {
-                value += worth(lent[at + i + 8 * next.number], i);
-                here = next;
-                i += 1;
-            },
-        }
+    for i in 0..k {
+        here = walk(lent, here, at + i, 1)?;
+        value += worth(lent[at + i + 8 * here.number], i);
     }
-    NumberRead::Whole(NumberAt {
+    Ok(NumberAt {
         value,
         next: at + k,
     })
@@ -141,15 +123,13 @@ fn wide(b: u8) -> u64
 }
 
 // The part of n bytes at a place.
-pub fn part_at(lent: &[u8], frame: Frame, at: usize, n: usize) -> PartRead
-    ensures { result ≡ part_read (part_at n (source_from lent.now frame) at whole) }
+pub fn part_at(lent: &[u8], frame: Frame, at: usize, n: usize) -> Result<PartAt, Refusal>
+    ensures { numbered result ≡ part_read (part_at n (source_from lent.now frame) at whole) }
 {
     if !holds(lent, frame, at, n) {
-        if let Reached::Past(r) = reach(lent, frame, at, n) {
-            return PartRead::Refused(r);
-        }
+        reach(lent, frame, at, n)?;
     }
-    PartRead::Whole(PartAt {
+    Ok(PartAt {
         part: Part { start: at, len: n },
         next: at + n,
     })
@@ -159,5 +139,5 @@ pub fn part_at(lent: &[u8], frame: Frame, at: usize, n: usize) -> PartRead
 pub fn minus(a: usize, b: usize) -> usize
     ensures { result ≡ a - b }
 {
-    if b < a { a - b } else { 0 }
+    a.saturating_sub(b)
 }

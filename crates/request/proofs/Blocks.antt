@@ -8,17 +8,13 @@ use lib.ListN.{length, drop, length-drop}
 use lib.Seq.{drop-drop}
 use lib.Dec.{leb, eqb}
 use borrow.Author.Tests.{le-ltb, lt-ltb}
-use denote.Enum.Declared.{tag_of}
-use types.Run.{OneOf}
-use mathlib.Core.Logic.{inl, inr}
-use Rattle.request.specs.contracts.Headers.{the_type}
+use Rattle.std.specs.Prelude.{Result, Ok, Err, Some, None}
 use Rattle.wire.specs.Le.{le_at}
 use Rattle.wire.proofs.Cases.{split}
 use Rattle.request.specs.Headers.{all_headers, CannotBe}
 use Rattle.request.specs.Transaction.{broken, is_descriptor, descriptor_in}
-use Rattle.request.specs.declared.Headers.{Headers}
-use Rattle.request.specs.declared.Headers.TheVariants.{Length, Short, TooSmall, PastEnd}
-use Rattle.request.specs.declared.Descriptor.TheVariants.{Found, Missing}
+use Rattle.request.specs.declared.HeadersFault.{HeadersFault}
+use Rattle.request.specs.declared.HeadersFault.TheVariants.{Short, TooSmall, PastEnd}
 
 -- ---- the headers length, by its cases
 
@@ -26,30 +22,30 @@ module _ (body : List ℕ) where
   abbrev N : ℕ
   N = le_at 4 body
 
-  pub is-short : length body < 4 → all_headers body ≡ Short
+  pub is-short : length body < 4 → all_headers body ≡ Err Short
   unfolding all_headers
   is-short h = rw (lt-ltb (length body) 4 h)
 
   module _ (h : 4 ≤ length body) where
-    pub is-small : N < 4 → all_headers body ≡ TooSmall
+    pub is-small : N < 4 → all_headers body ≡ Err TooSmall
     unfolding all_headers
     is-small k = rw (le-ltb (length body) 4 h, lt-ltb N 4 k)
 
     module _ (k : 4 ≤ N) where
-      pub is-past : length body < N → all_headers body ≡ PastEnd
+      pub is-past : length body < N → all_headers body ≡ Err PastEnd
       unfolding all_headers
       is-past l = rw (le-ltb (length body) 4 h, le-ltb N 4 k, lt-ltb (length body) N l)
 
-      pub is-length : N ≤ length body → all_headers body ≡ Length N
+      pub is-length : N ≤ length body → all_headers body ≡ Ok N
       unfolding all_headers
       is-length l = rw (le-ltb (length body) 4 h, le-ltb N 4 k, le-ltb (length body) N l)
 
   -- what each says of the request
-  abbrev Says : Headers → Type 0
-  Says Short = Unit {0}
-  Says TooSmall = CannotBe body
-  Says PastEnd = Unit {0}
-  Says (Length n) = (4 ≤ n) × (n ≤ length body)
+  abbrev Says : Result ℕ HeadersFault → Type 0
+  Says (Err Short) = Unit {0}
+  Says (Err TooSmall) = CannotBe body
+  Says (Err PastEnd) = Unit {0}
+  Says (Ok n) = (4 ≤ n) × (n ≤ length body)
 
   says : Says (all_headers body)
   says =
@@ -61,28 +57,11 @@ module _ (body : List ℕ) where
       (λ h. rw (is-short h) tt)
 
   -- the block holds its own length and lies in the request
-  pub block_in : {n : ℕ} → all_headers body ≡ Length n → (4 ≤ n) × (n ≤ length body)
+  pub block_in : {n : ℕ} → all_headers body ≡ Ok n → (4 ≤ n) × (n ≤ length body)
   block_in e = rw e at says
 
-  pub cannot-be : all_headers body ≡ TooSmall → CannotBe body
+  pub cannot-be : all_headers body ≡ Err TooSmall → CannotBe body
   cannot-be e = rw e at says
-
--- a request that has no whole block, and one whose block is cut
-pub no_block : (X : Headers → Type 0) (h : Headers) → OneOf (1 ∷ 2 ∷ 3 ∷ []) (tag_of the_type h) → X Short → X TooSmall → X PastEnd → X h
-no_block X (Length n) (inl e) x y z = absurd (omega (arith, e))
-no_block X (Length n) (inr (inl e)) x y z = absurd (omega (arith, e))
-no_block X (Length n) (inr (inr e)) x y z = absurd (omega (arith, e))
-no_block X Short k x y z = x
-no_block X TooSmall k x y z = y
-no_block X PastEnd k x y z = z
-
-pub cut-block : (X : Headers → Type 0) (h : Headers) → OneOf (1 ∷ 3 ∷ []) (tag_of the_type h) → X Short → X PastEnd → X h
-cut-block X (Length n) (inl e) x y = absurd (omega (arith, e))
-cut-block X (Length n) (inr e) x y = absurd (omega (arith, e))
-cut-block X TooSmall (inl e) x y = absurd (omega (arith, e))
-cut-block X TooSmall (inr e) x y = absurd (omega (arith, e))
-cut-block X Short k x y = x
-cut-block X PastEnd k x y = y
 
 -- ---- the walk
 
@@ -95,7 +74,7 @@ passed (suc n) (b ∷ l) h = passed n l (omega arith)
 
 -- a header at the front of a block
 front : (l : List ℕ) → 6 ≤ length l → 6 ≤ le_at 4 l → le_at 4 l ≤ length l
-    → descriptor_in 0 l ≡ cond (is_descriptor (le_at 4 l) l) (Found (le_at 8 (drop 6 l)) (le_at 4 (drop 14 l))) (descriptor_in 0 (drop (le_at 4 l) l))
+    → descriptor_in 0 l ≡ cond (is_descriptor (le_at 4 l) l) (Some (record { descriptor = le_at 8 (drop 6 l); count = le_at 4 (drop 14 l) })) (descriptor_in 0 (drop (le_at 4 l) l))
 unfolding descriptor_in
 front [] h j k = absurd (omega arith)
 front (b ∷ l) h j k =
@@ -104,7 +83,7 @@ front (b ∷ l) h j k =
     let rest : descriptor_in (n - 1) l ≡ descriptor_in 0 (drop n (b ∷ l)) = passed (n - 1) l (omega arith) ∙ ap (λ (i : ℕ). descriptor_in 0 (drop i (b ∷ l))) (sym e) in
     simp (le-ltb (suc (length l)) 6 h, le-ltb n 6 j, le-ltb (suc (length l)) n k, rest)
 
-broken-front : (l : List ℕ) → broken (le_at 4 l) l ≡ true → descriptor_in 0 l ≡ Missing
+broken-front : (l : List ℕ) → broken (le_at 4 l) l ≡ true → descriptor_in 0 l ≡ None
 unfolding descriptor_in
 broken-front [] h = refl
 broken-front (b ∷ l) h = rw h
@@ -113,16 +92,16 @@ module _ (s : List ℕ) (at : ℕ) where
   -- the header at a place, and the headers after it
   pub header_at : {n kind : ℕ} {t : Bool} → 6 ≤ length s - at → 6 ≤ n → n ≤ length s - at → n ≡ le_at 4 (drop at s) → kind ≡ le_at 2 (drop (at + 4) s)
       → (eqb kind 2 && leb 18 n) ≡ t
-      → descriptor_in 0 (drop at s) ≡ cond t (Found (le_at 8 (drop (at + 6) s)) (le_at 4 (drop (at + 14) s))) (descriptor_in 0 (drop (at + n) s))
+      → descriptor_in 0 (drop at s) ≡ cond t (Some (record { descriptor = le_at 8 (drop (at + 6) s); count = le_at 4 (drop (at + 14) s) })) (descriptor_in 0 (drop (at + n) s))
   header_at h j k e f g =
       front (drop at s) (simp length-drop h) (rw e at j) (simp length-drop (rw e at k)) ∙ simp (drop-drop, ← e, ← f, g)
 
   -- a header that is broken
-  pub cut_at : length s - at < 6 → descriptor_in 0 (drop at s) ≡ Missing
+  pub cut_at : length s - at < 6 → descriptor_in 0 (drop at s) ≡ None
   cut_at h = broken-front (drop at s) (simp (length-drop, lt-ltb (length s - at) 6 h))
 
-  pub small_at : {n : ℕ} → 6 ≤ length s - at → n ≡ le_at 4 (drop at s) → n < 6 → descriptor_in 0 (drop at s) ≡ Missing
+  pub small_at : {n : ℕ} → 6 ≤ length s - at → n ≡ le_at 4 (drop at s) → n < 6 → descriptor_in 0 (drop at s) ≡ None
   small_at {n} h e k = broken-front (drop at s) (simp (length-drop, le-ltb (length s - at) 6 h, ← e, lt-ltb n 6 k))
 
-  pub long-at : {n : ℕ} → 6 ≤ length s - at → n ≡ le_at 4 (drop at s) → 6 ≤ n → length s - at < n → descriptor_in 0 (drop at s) ≡ Missing
+  pub long-at : {n : ℕ} → 6 ≤ length s - at → n ≡ le_at 4 (drop at s) → 6 ≤ n → length s - at < n → descriptor_in 0 (drop at s) ≡ None
   long-at {n} h e j k = broken-front (drop at s) (simp (length-drop, le-ltb (length s - at) 6 h, ← e, le-ltb n 6 j, lt-ltb (length s - at) n k))

@@ -1,17 +1,17 @@
 -- The headers that a request begins with (MS-TDS 2.2.5.3, ALL_HEADERS): a 4-byte length of the block, which counts itself, and the
 -- headers. Document 01, 'Requests and logins', and document 02, 2026-05. Rests on wire's numbers.
-use Rattle.std.specs.Prelude.{ℕ, ◌≤◌, ◌<◌, List, cond, ltb, length}
+use Rattle.std.specs.Prelude.{ℕ, ◌≤◌, ◌<◌, List, cond, ltb, length, Result, Ok, Err}
 use Rattle.wire.specs.Le.{le_at}
-use Rattle.request.specs.declared.Headers.{Headers}
-use Rattle.request.specs.declared.Headers.TheVariants.{Length, Short, TooSmall, PastEnd}
+use Rattle.request.specs.declared.HeadersFault.{HeadersFault}
+use Rattle.request.specs.declared.HeadersFault.TheVariants.{Short, TooSmall, PastEnd}
 
 -- the length of the headers block of a request. One of 0 to 3 cannot be, since it counts its own four bytes; the Rust accepts it
-unfoldable pub all_headers : List ℕ → Headers
+unfoldable pub all_headers : List ℕ → Result ℕ HeadersFault
 all_headers body =
-    cond (ltb (length body) 4) Short
-    (cond (ltb (le_at 4 body) 4) TooSmall
-    (cond (ltb (length body) (le_at 4 body)) PastEnd
-    (Length (le_at 4 body))))
+    cond (ltb (length body) 4) (Err Short)
+    (cond (ltb (le_at 4 body) 4) (Err TooSmall)
+    (cond (ltb (length body) (le_at 4 body)) (Err PastEnd)
+    (Ok (le_at 4 body))))
 
 -- ---- which lengths cannot be
 

@@ -3,15 +3,13 @@
 #![tactic(auto)]
 
 ghost use Rattle.std.specs.Prelude.{◌≡◌, ◌≤◌, length};
+ghost use Rattle.refusals.specs.Refused.{numbered};
 ghost use Rattle.request.specs.Headers.{all_headers};
 ghost use Rattle.request.specs.Batch.{batch_text, sql_batch};
 ghost use Rattle.request.specs.Transaction.{transaction_request, descriptor_in, transaction_descriptor};
 ghost use Rattle.request.specs.FedAuth.{fed_auth_token};
 
-use refusals::{
-    BATCH_EMPTY, BATCH_NOT_UTF16, BATCH_TOO_SHORT, HEADERS_PAST_END, HEADERS_TOO_SMALL,
-    INNER_LENGTH, NO_TRANSACTION_TYPE, OUTER_LENGTH, TOKEN_TOO_SHORT,
-};
+use refusals::Refusal;
 use wire::Part;
 
 // The type of a transaction descriptor header (MS-TDS 2.2.5.3.2).
@@ -20,127 +18,103 @@ const HEADER_TYPE_TRANSACTION_DESCRIPTOR: u16 = 2;
 // Its length: its own 4 bytes, the type, the descriptor and the count.
 const TRANSACTION_DESCRIPTOR_LENGTH: usize = 18;
 
-// The length of a request's headers block.
-#[derive(Clone, Copy)]
-pub enum Headers {
-    Length(usize),
-    // The request has no four bytes for it.
+// Why a request has no whole headers block.
+#[derive(Clone, Copy, Debug, PartialEq, Eq)]
+pub enum HeadersFault {
+    // The request has no four bytes for its length.
     Short,
-    // It is 0 to 3, so that it cannot hold its own four bytes.
+    // Its length is 0 to 3, so that it cannot hold its own four bytes.
     TooSmall,
-    // It is more than the request has.
+    // Its length is more than the request has.
     PastEnd,
 }
 
-// The text as a part of the request.
-#[derive(Clone, Copy)]
-pub enum Batch {
-    Text(Part),
-    Refused(u8),
-}
-
-// A request's type, as MS-TDS numbers them.
-#[derive(Clone, Copy)]
-pub enum TransactionRequest {
-    RequestType(u16),
-    Refused(u8),
-}
-
 // The transaction descriptor and the count of outstanding requests.
-#[derive(Clone, Copy)]
-pub enum Descriptor {
-    Found { descriptor: u64, count: u32 },
-    Missing,
-}
-
-// The token as a part of the packet's payload.
-#[derive(Clone, Copy)]
-pub enum FedAuthToken {
-    Bytes(Part),
-    Refused(u8),
+#[derive(Clone, Copy, Debug, PartialEq, Eq)]
+pub struct Descriptor {
+    pub descriptor: u64,
+    pub count: u32,
 }
 
 // The length of the headers block, for every request that begins with one.
-pub fn all_headers(body: &[u8]) -> Headers
+pub fn all_headers(body: &[u8]) -> Result<usize, HeadersFault>
     ensures { result ≡ all_headers body.now }
 {
     if body.len() < 4 {
-        return Headers::Short;
+        return Err(HeadersFault::Short);
     }
     let len = wire::get_u32_le(body, 0) as usize;
     if len < 4 {
-        return Headers::TooSmall;
+        return Err(HeadersFault::TooSmall);
     }
     if body.len() < len {
-        return Headers::PastEnd;
+        return Err(HeadersFault::PastEnd);
     }
-    Headers::Length(len)
+    Ok(len)
 }
 
-// The text of a batch, without white space at its ends.
-pub fn parse_sql_batch(body: &[u8]) -> Batch
-    ensures { result ≡ sql_batch body.now }
+// The text of a batch as a part of it, without white space at its ends.
+pub fn parse_sql_batch(body: &[u8]) -> Result<Part, Refusal>
+    ensures { numbered result ≡ sql_batch body.now }
 {
-    if body.len() == 0 {
-        return Batch::Refused(BATCH_EMPTY);
+    if body.is_empty() {
+        return Err(Refusal::BatchEmpty);
     }
-    let headers = all_headers(body);
-    match headers {
-        Headers::Short => Batch::Refused(BATCH_TOO_SHORT),
-        Headers::TooSmall => Batch::Refused(HEADERS_TOO_SMALL),
-        Headers::PastEnd => Batch::Refused(HEADERS_PAST_END),
-        Headers::Length(at) => batch_text(body, at),
+    match all_headers(body) {
+        Err(HeadersFault::Short) => Err(Refusal::BatchTooShort),
+        Err(HeadersFault::TooSmall) => Err(Refusal::HeadersTooSmall),
+        Err(HeadersFault::PastEnd) => Err(Refusal::HeadersPastEnd),
+        Ok(at) => batch_text(body, at),
     }
 }
 
 // The text from a place on. An odd last byte goes first, then the text is tested, then trimmed.
-fn batch_text(body: &[u8], at: usize) -> Batch
+fn batch_text(body: &[u8], at: usize) -> Result<Part, Refusal>
     requires { at ≤ length body.now }
-    ensures { result ≡ batch_text body.now at }
+    ensures { numbered result ≡ batch_text body.now at }
 {
     let rest = &body[at..];
     let even = 2 * text::units(rest);
     let sql = &rest[..even];
     if !text::is_well_formed(sql) {
-        return Batch::Refused(BATCH_NOT_UTF16);
+        return Err(Refusal::BatchNotUtf16);
     }
     let part = text::trimmed(sql);
-    Batch::Text(Part {
+    Ok(Part {
         start: at + part.start,
         len: part.len,
     })
 }
 
-// The type of a transaction manager request, which stands after the headers.
-pub fn parse_transaction_manager_request(body: &[u8]) -> TransactionRequest
-    ensures { result ≡ transaction_request body.now }
+// The type of a transaction manager request, as MS-TDS numbers them, which stands after the headers.
+pub fn parse_transaction_manager_request(body: &[u8]) -> Result<u16, Refusal>
+    ensures { numbered result ≡ transaction_request body.now }
 {
-    let headers = all_headers(body);
-    match headers {
-        Headers::Short | Headers::PastEnd => TransactionRequest::Refused(NO_TRANSACTION_TYPE),
-        Headers::TooSmall => TransactionRequest::Refused(HEADERS_TOO_SMALL),
-        Headers::Length(at) => {
+    match all_headers(body) {
+        Err(HeadersFault::Short) => Err(Refusal::NoTransactionType),
+        Err(HeadersFault::TooSmall) => Err(Refusal::HeadersTooSmall),
+        Err(HeadersFault::PastEnd) => Err(Refusal::NoTransactionType),
+        Ok(at) => {
             if wire::left(body, at) < 2 {
-                return TransactionRequest::Refused(NO_TRANSACTION_TYPE);
+                return Err(Refusal::NoTransactionType);
             }
-            TransactionRequest::RequestType(wire::get_u16_le(body, at))
+            Ok(wire::get_u16_le(body, at))
         }
     }
 }
 
 // The transaction descriptor header of a request, if one is present.
-pub fn parse_transaction_descriptor_header(body: &[u8]) -> Descriptor
+pub fn parse_transaction_descriptor_header(body: &[u8]) -> Option<Descriptor>
     ensures { result ≡ transaction_descriptor body.now }
 {
-    let headers = all_headers(body);
-    match headers {
-        Headers::Short | Headers::TooSmall | Headers::PastEnd => Descriptor::Missing,
-        Headers::Length(end) => descriptor_in(&body[4..end]),
+    match all_headers(body) {
+        Err(_) => None,
+        Ok(end) => descriptor_in(&body[4..end]),
     }
 }
 
 // The first transaction descriptor header of a block; one that is too short is passed over.
-fn descriptor_in(block: &[u8]) -> Descriptor
+fn descriptor_in(block: &[u8]) -> Option<Descriptor>
     ensures { result ≡ descriptor_in 0 block.now }
 {
     let mut at: usize = 0;
@@ -148,38 +122,38 @@ fn descriptor_in(block: &[u8]) -> Descriptor
         let len = wire::get_u32_le(block, at) as usize;
         let kind = wire::get_u16_le(block, at + 4);
         if len < 6 {
-            return Descriptor::Missing;
+            return None;
         }
         if block.len() - at < len {
-            return Descriptor::Missing;
+            return None;
         }
         if (kind == HEADER_TYPE_TRANSACTION_DESCRIPTOR) & (TRANSACTION_DESCRIPTOR_LENGTH <= len) {
-            return Descriptor::Found {
+            return Some(Descriptor {
                 descriptor: wire::get_u64_le(block, at + 6),
                 count: wire::get_u32_le(block, at + 14),
-            };
+            });
         }
         at += len;
     }
-    Descriptor::Missing
+    None
 }
 
-// The token of a token message.
-pub fn parse_fedauth_token(payload: &[u8]) -> FedAuthToken
-    ensures { result ≡ fed_auth_token payload.now }
+// The token of a token message as a part of the packet's payload.
+pub fn parse_fedauth_token(payload: &[u8]) -> Result<Part, Refusal>
+    ensures { numbered result ≡ fed_auth_token payload.now }
 {
     if payload.len() < 8 {
-        return FedAuthToken::Refused(TOKEN_TOO_SHORT);
+        return Err(Refusal::TokenTooShort);
     }
     let outer = wire::get_u32_le(payload, 0) as usize;
     if outer != payload.len() - 4 {
-        return FedAuthToken::Refused(OUTER_LENGTH);
+        return Err(Refusal::OuterLength);
     }
     let inner = wire::get_u32_le(payload, 4) as usize;
     if inner != payload.len() - 8 {
-        return FedAuthToken::Refused(INNER_LENGTH);
+        return Err(Refusal::InnerLength);
     }
-    FedAuthToken::Bytes(Part {
+    Ok(Part {
         start: 8,
         len: inner,
     })

@@ -9,8 +9,10 @@ use native.Mathlib.Omega.{arith}
 use lib.Dec.{eqb}
 use borrow.Author.Tests.{ne_eqb, eqb-true}
 use Rattle.wire.proofs.Cases.{by-test}
-use Rattle.script.specs.declared.Checked.{Checked}
-use Rattle.script.specs.declared.Checked.TheVariants.{Accepted, Refused}
+use Rattle.std.specs.Prelude.{Result, Ok, Err, ⊤}
+use Rattle.refusals.specs.declared.Refusal.{Refusal}
+use Rattle.refusals.specs.Refused.{number, numbered, refused_by}
+use Rattle.refusals.proofs.Numbers.{number-not-0}
 use Rattle.script.specs.declared.Found.TheVariants.{Record, Cut, End}
 use Rattle.script.specs.declared.Stage.{Stage}
 use Rattle.script.specs.declared.Stage.TheVariants.{Start, Columns, Leading, Infos, Rows, TextChunks, ByteChunks, Trailing}
@@ -48,30 +50,28 @@ module _ (s : List ℕ) (at : ℕ) (stage : Stage) where
 
 -- ---- the answer, by the script's refusal
 
-module _ (s : List ℕ) {v : ℕ} (e : v ≡ verdict_of s) where
-  pub answer-none : v ≡ 0 → Accepted ≡ checked_of s
+module _ (s : List ℕ) where
+  -- the refusal of a record or of the end, and none at the end
+  pub answer_is : (x : Result ⊤ Refusal) → refused_by x ≡ verdict_of s → numbered x ≡ checked_of s
   unfolding checked_of
-  answer-none h = rw (← e, h)
-
-  pub answer-some : (v ≡ 0 → ⊥) → Refused v ≡ checked_of s
-  unfolding checked_of
-  answer-some h = rw (← e, ne_eqb v 0 h)
+  answer_is (Ok tt) e = rw (← e)
+  answer_is (Err r) e = rw (← e, ne_eqb (number r) 0 (number-not-0 r))
 
 -- what it says of the refusal
 
-abbrev number_in : Checked → ℕ
-number_in Accepted = 0
-number_in (Refused n) = n
+abbrev number_in : Result ⊤ ℕ → ℕ
+number_in (Ok u) = 0
+number_in (Err n) = n
 
 module _ (s : List ℕ) where
   number_is : number_in (checked_of s) ≡ verdict_of s
   unfolding checked_of
   number_is = by-test (eqb (verdict_of s) 0) (λ e. rw e (sym (eqb-true (verdict_of s) 0 e))) (λ e. rw e)
 
-  pub accepted-none : checked_of s ≡ Accepted → verdict_of s ≡ 0
+  pub accepted-none : {u : ⊤} → checked_of s ≡ Ok u → verdict_of s ≡ 0
   accepted-none e = sym number_is ∙ ap number_in e
 
-  module _ {n : ℕ} (e : checked_of s ≡ Refused n) where
+  module _ {n : ℕ} (e : checked_of s ≡ Err n) where
     pub refused-by : n ≡ verdict_of s
     refused-by = sym (ap number_in e) ∙ number_is
 
@@ -79,8 +79,7 @@ module _ (s : List ℕ) where
     unfolding checked_of
     refused-some z =
         let v : verdict_of s ≡ 0 = sym refused-by ∙ z in
-        let a : Accepted ≡ Refused n = rw v at e in
-        let c : ◌≡◌ {A = ℕ} 0 1 = cc in omega arith
+        let a : ◌≡◌ {A = Result ⊤ ℕ} (Ok tt) (Err n) = rw v at e in cc
 
 -- ---- the numbers that refuse a script
 

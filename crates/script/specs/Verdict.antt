@@ -1,12 +1,10 @@
 -- Which scripts are accepted, and which number refuses the others: 11 to 14, the first bad record, in this order within it
 -- (document 01, 'Who causes which refusal'). Rests on Records, Order, Shape and text.
-use Rattle.std.specs.Prelude.{ℕ, List, [], ◌∷◌, Bool, true, cond, ◌&&◌, eqb}
+use Rattle.std.specs.Prelude.{ℕ, List, [], ◌∷◌, Bool, true, cond, ◌&&◌, eqb, Result, Ok, Err, ⊤}
 use Rattle.refusals.specs.Numbers.{kind_wrong, record_cut, shape_wrong, text_wrong}
 use Rattle.text.specs.Surrogates.{well_formed}
 use Rattle.script.specs.declared.Stage.{Stage}
 use Rattle.script.specs.declared.Stage.TheVariants.{Start, Columns, Leading, Infos, Rows, TextChunks, ByteChunks, Trailing}
-use Rattle.script.specs.declared.Checked.{Checked}
-use Rattle.script.specs.declared.Checked.TheVariants.{Accepted, Refused}
 use Rattle.script.specs.Records.{Item, item, cut, records}
 use Rattle.script.specs.Order.{allowed, stage_after}
 use Rattle.script.specs.Shape.{shaped, texts_of}
@@ -43,5 +41,5 @@ unfolding verdict_from
 verdict_of s = verdict_from Start (records s)
 
 -- the answer: accepted, or refused by that number
-unfoldable pub checked_of : List ℕ → Checked
-checked_of s = cond (eqb (verdict_of s) 0) Accepted (Refused (verdict_of s))
+unfoldable pub checked_of : List ℕ → Result ⊤ ℕ
+checked_of s = cond (eqb (verdict_of s) 0) (Ok tt) (Err (verdict_of s))

@@ -2,15 +2,16 @@
 #![tactic(auto)]
 
 ghost use Rattle.std.specs.Prelude.{◌≡◌, [], ◌∷◌, cond, length, drop, eqb, leb};
+ghost use Rattle.refusals.specs.Refused.{numbered, refused_by};
 ghost use Rattle.wire.specs.Le.{le_at};
 ghost use Rattle.script.specs.declared.Found.TheVariants as found;
 ghost use Rattle.script.specs.declared.Stage.TheVariants as stages;
 ghost use Rattle.script.specs.Records.{record_at};
 ghost use Rattle.script.specs.Order.{allowed, cell_stage, stage_after};
 ghost use Rattle.script.specs.Shape.{column_shaped, info_shaped, cell_shaped, chunk_shaped, error_shaped, shaped, texts_of, message_text, server_name, procedure_name};
-ghost use Rattle.script.specs.Verdict.{all_well_formed, fault_of, end_fault, verdict_of, checked_of};
+ghost use Rattle.script.specs.Verdict.{all_well_formed, fault_of, end_fault, checked_of};
 
-use refusals::{KIND_WRONG, NONE, RECORD_CUT, SHAPE_WRONG, TEXT_WRONG};
+use refusals::Refusal;
 use wire::Part;
 
 // What stands at a place: a record, whose payload starts at start and has len bytes, one that is cut, or the end.
@@ -295,9 +296,9 @@ fn texts_ok(kind: u16, p: &[u8]) -> bool
     }
 }
 
-// A record's refusal at a stage, or none. Rows and cells, which are many, go by their kind first.
-fn fault(stage: Stage, kind: u16, p: &[u8]) -> u8
-    ensures { result ≡ fault_of stage kind p.now }
+// Whether a record may stand at a stage, or its refusal. Rows and cells, which are many, go by their kind first.
+fn fault(stage: Stage, kind: u16, p: &[u8]) -> Result<(), Refusal>
+    ensures { refused_by result ≡ fault_of stage kind p.now }
 {
     match kind {
         ROW => row_fault(stage, p),
@@ -306,84 +307,70 @@ fn fault(stage: Stage, kind: u16, p: &[u8]) -> u8
     }
 }
 
-// A row's refusal, a cell's, and that of a record of any kind.
-fn row_fault(stage: Stage, p: &[u8]) -> u8
-    ensures { result ≡ fault_of stage 4 p.now }
+// The same of a row, of a cell, and of a record of any kind.
+fn row_fault(stage: Stage, p: &[u8]) -> Result<(), Refusal>
+    ensures { refused_by result ≡ fault_of stage 4 p.now }
 {
     if !is_allowed(stage, ROW) {
-        return KIND_WRONG;
+        return Err(Refusal::KindWrong);
     }
-    if p.len() == 0 { NONE } else { SHAPE_WRONG }
+    if p.len() == 0 {
+        Ok(())
+    } else {
+        Err(Refusal::ShapeWrong)
+    }
 }
 
-fn cell_fault(stage: Stage, p: &[u8]) -> u8
-    ensures { result ≡ fault_of stage 5 p.now }
+fn cell_fault(stage: Stage, p: &[u8]) -> Result<(), Refusal>
+    ensures { refused_by result ≡ fault_of stage 5 p.now }
 {
     if !is_allowed(stage, CELL) {
-        return KIND_WRONG;
+        return Err(Refusal::KindWrong);
     }
     if !cell_shaped(p) {
-        return SHAPE_WRONG;
+        return Err(Refusal::ShapeWrong);
     }
     if !cell_text_ok(p) {
-        return TEXT_WRONG;
+        return Err(Refusal::TextWrong);
     }
-    NONE
+    Ok(())
 }
 
-fn other_fault(stage: Stage, kind: u16, p: &[u8]) -> u8
-    ensures { result ≡ fault_of stage kind p.now }
+fn other_fault(stage: Stage, kind: u16, p: &[u8]) -> Result<(), Refusal>
+    ensures { refused_by result ≡ fault_of stage kind p.now }
 {
     if !is_allowed(stage, kind) {
-        return KIND_WRONG;
+        return Err(Refusal::KindWrong);
     }
     if !is_shaped(stage, kind, p) {
-        return SHAPE_WRONG;
+        return Err(Refusal::ShapeWrong);
     }
     if !texts_ok(kind, p) {
-        return TEXT_WRONG;
+        return Err(Refusal::TextWrong);
     }
-    NONE
+    Ok(())
 }
 
-// The refusal at the end of a script, or none.
-fn end_fault(stage: Stage) -> u8
-    ensures { result ≡ end_fault stage }
+// Whether a script may end at a stage, or its refusal.
+fn end_fault(stage: Stage) -> Result<(), Refusal>
+    ensures { refused_by result ≡ end_fault stage }
 {
     match stage {
-        Stage::Start => KIND_WRONG,
-        _ => NONE,
+        Stage::Start => Err(Refusal::KindWrong),
+        _ => Ok(()),
     }
 }
 
-// A script that is accepted as far as its records go, or its refusal, 11 to 14.
-#[derive(Clone, Copy)]
-pub enum Checked {
-    Accepted,
-    Refused(u8),
-}
-
-// Whether a script is accepted.
-pub fn verdict(s: &[u8]) -> Checked
-    ensures { result ≡ checked_of s.now }
-{
-    let number = script_fault(s);
-    if number == NONE {
-        return Checked::Accepted;
-    }
-    Checked::Refused(number)
-}
-
-// A script's refusal, 11 to 14, or none: one pass over its records.
-fn script_fault(s: &[u8]) -> u8
-    ensures { result ≡ verdict_of s.now }
+// Whether a script is accepted, or its refusal, 11 to 14: one pass over its records.
+pub fn verdict(s: &[u8]) -> Result<(), Refusal>
+    ensures { numbered result ≡ checked_of s.now }
 {
     let mut at: usize = 0;
     let mut stage = Stage::Start;
     loop {
         match record_at(s, at) {
             Found::Cut => {
-                return RECORD_CUT;
+                return Err(Refusal::RecordCut);
             }
             Found::End => {
                 return end_fault(stage);
@@ -391,10 +378,7 @@ fn script_fault(s: &[u8]) -> u8
             Found::Record { kind, start, len } => {
                 let next = start + len;
                 let payload = &s[start..next];
-                let found = fault(stage, kind, payload);
-                if found != NONE {
-                    return found;
-                }
+                fault(stage, kind, payload)?;
                 stage = stage_after(stage, kind, payload);
                 at = next;
             }

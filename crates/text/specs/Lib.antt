@@ -3,4 +3,3 @@ pub mod Surrogates
 pub mod Space
 pub mod Trim
 pub mod Arguments
-pub mod Inner

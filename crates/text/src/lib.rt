@@ -2,19 +2,19 @@
 // A text is any bytes: two are a unit, the lower first, and an odd last byte belongs to none.
 #![tactic(auto)]
 
-ghost use Rattle.std.specs.Prelude.{◌≡◌, ◌∷◌, ◌+◌, ◌*◌, ◌≤◌, ◌<◌, length, drop};
+ghost use Rattle.std.specs.Prelude.{ℕ, ◌≡◌, ◌∷◌, ◌+◌, ◌*◌, ◌≤◌, ◌<◌, length, drop};
+ghost use Rattle.refusals.specs.Refused.{refused_by};
 ghost use Rattle.text.specs.Units.{units_of, units, total};
 ghost use Rattle.text.specs.Surrogates.{surrogate_of, well_formed, has_pair, characters_in, characters, utf8_in, utf8_length};
 ghost use Rattle.text.specs.Space.{is_whitespace};
 ghost use Rattle.text.specs.Trim.{leading, kept, trimmed};
 ghost use Rattle.text.specs.Arguments.{text_fault};
-ghost use Rattle.text.specs.Inner.{count_in};
 
-use refusals::{NONE, NOT_UTF16, ODD_TEXT};
+use refusals::Refusal;
 use wire::Part;
 
 // What a unit is: half of a surrogate pair, the high one or the low one, or a character of its own.
-#[derive(Clone, Copy)]
+#[derive(Clone, Copy, PartialEq, Eq)]
 pub enum Surrogate {
     Plain,
     High,
@@ -107,43 +107,30 @@ pub fn units(s: &[u8]) -> usize
 pub fn characters(s: &[u8]) -> usize
     ensures { result ≡ characters s.now }
 {
-    total(s, Count::Characters)
+    total(s, |u| characters_in(u))
 }
 
 // How many bytes a text has as UTF-8.
 pub fn utf8_length(s: &[u8]) -> usize
     ensures { result ≡ utf8_length s.now }
 {
-    total(s, Count::Utf8Bytes)
+    total(s, |u| utf8_in(u))
 }
 
-// What is counted.
-#[derive(Clone, Copy)]
-enum Count {
-    Characters,
-    Utf8Bytes,
-}
-
-// The sum of what each unit of a text counts.
-fn total(s: &[u8], of: Count) -> usize
-    ensures { result ≡ total (count_in of) (units_of s.now) }
+// The sum of what each unit of a text counts, at most 3.
+fn total<F: Fn(u16) -> usize>(s: &[u8], count: F) -> usize
+    ghost counted: { ℕ → ℕ }
+    requires callable { F.IsAlwaysCallable count }
+    requires counts { (u n : ℕ) → u < 65536 → F.post count u n → (n ≡ counted u) × (n ≤ 3) }
+    ensures { result ≡ total counted (units_of s.now) }
 {
     let mut n: usize = 0;
     let mut at: usize = 0;
     while at + 1 < s.len() {
-        n += count_in(of, unit(s, at));
+        n += count(unit(s, at));
         at += 2;
     }
     n
-}
-
-fn count_in(of: Count, u: u16) -> usize
-    ensures { (result ≡ count_in of u) × (result ≤ 3) }
-{
-    match of {
-        Count::Characters => characters_in(u),
-        Count::Utf8Bytes => utf8_in(u),
-    }
 }
 
 fn characters_in(u: u16) -> usize
@@ -224,15 +211,15 @@ fn trim_end(s: &[u8]) -> usize
     0
 }
 
-// The refusal of a text argument, or none.
-pub fn text_fault(text: &[u8]) -> u8
-    ensures { result ≡ text_fault text.now }
+// Why a text argument is refused, if it is.
+pub fn text_fault(text: &[u8]) -> Result<(), Refusal>
+    ensures { refused_by result ≡ text_fault text.now }
 {
     if text.len() % 2 != 0 {
-        return ODD_TEXT;
+        return Err(Refusal::OddText);
     }
     if !is_well_formed(text) {
-        return NOT_UTF16;
+        return Err(Refusal::NotUtf16);
     }
-    NONE
+    Ok(())
 }

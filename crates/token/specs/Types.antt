@@ -1,9 +1,7 @@
 -- The column types (MS-TDS 2.2.5.4, 2.2.5.5): the code and the length that the Rust writes for each. Rests on nothing.
-use Rattle.std.specs.Prelude.{ℕ, cond, ◌||◌, List, [], ◌∷◌, eqb}
+use Rattle.std.specs.Prelude.{ℕ, cond, ◌||◌, List, [], ◌∷◌, eqb, Option, Some, None}
 use Rattle.token.specs.declared.SqlDataType.{SqlDataType}
 use Rattle.token.specs.declared.SqlDataType.TheVariants.{TinyInt, SmallInt, Int, BigInt, NVarChar, NVarCharMax, VarCharMax, VarBinaryMax}
-use Rattle.token.specs.declared.KnownDataType.{KnownDataType}
-use Rattle.token.specs.declared.KnownDataType.TheVariants.{Known, Unknown}
 
 -- the type byte that stands for a data type in a script (document 01, 'The script': 1 to 8 in the order of `SqlDataType`)
 abbrev pub type_byte : SqlDataType → ℕ
@@ -21,12 +19,12 @@ unfoldable pub data_types : List SqlDataType
 data_types = TinyInt ∷ SmallInt ∷ Int ∷ BigInt ∷ NVarChar ∷ NVarCharMax ∷ VarCharMax ∷ VarBinaryMax ∷ []
 
 -- of some data types the one that a byte stands for
-unfoldable pub data_type_in : List SqlDataType → ℕ → KnownDataType
-data_type_in [] b = Unknown
-data_type_in (t ∷ ts) b = cond (eqb b (type_byte t)) (Known t) (data_type_in ts b)
+unfoldable pub data_type_in : List SqlDataType → ℕ → Option SqlDataType
+data_type_in [] b = None
+data_type_in (t ∷ ts) b = cond (eqb b (type_byte t)) (Some t) (data_type_in ts b)
 
 -- the data type that a type byte stands for
-unfoldable pub data_type_of : ℕ → KnownDataType
+unfoldable pub data_type_of : ℕ → Option SqlDataType
 data_type_of b = data_type_in data_types b
 
 -- INTNTYPE 26, NVARCHARTYPE E7, BIGVARCHARTYPE A7, BIGVARBINARYTYPE A5

@@ -3,6 +3,7 @@
 #![tactic(auto)]
 
 ghost use Rattle.std.specs.Prelude.{◌≡◌, [], ◌∷◌, ◌%◌, length};
+ghost use Rattle.refusals.specs.Refused.{refused_by};
 ghost use Rattle.wire.specs.Fields.{flat, word, raw};
 ghost use Rattle.wire.specs.Over.{overwrite, PlaceAfter};
 ghost use Rattle.token.specs.Types.{data_type_of, type_code, type_length, length_width, collation_size};
@@ -10,7 +11,7 @@ ghost use Rattle.token.specs.Values.{column_value_of};
 ghost use Rattle.token.specs.Names.{name_fault};
 ghost use Rattle.token.specs.Tokens.{metadata, column, row, cell, done, message, integer, no_integer, bounded, no_long, token_bytes, us_varchar, b_varchar, message_head, message_length, type_fields};
 
-use refusals::{NAME_TOO_LONG, NONE};
+use refusals::Refusal;
 
 // The codes of tokens, as MS-TDS numbers them.
 pub const COLMETADATA: u8 = 0x81;
@@ -40,25 +41,19 @@ pub enum SqlDataType {
 }
 
 // The data type that a script's type byte stands for, where it stands for one.
-#[derive(Clone, Copy)]
-pub enum KnownDataType {
-    Known(SqlDataType),
-    Unknown,
-}
-
-pub fn data_type_of(b: u8) -> KnownDataType
+pub fn data_type_of(b: u8) -> Option<SqlDataType>
     ensures { result ≡ data_type_of b }
 {
     match b {
-        1 => KnownDataType::Known(SqlDataType::TinyInt),
-        2 => KnownDataType::Known(SqlDataType::SmallInt),
-        3 => KnownDataType::Known(SqlDataType::Int),
-        4 => KnownDataType::Known(SqlDataType::BigInt),
-        5 => KnownDataType::Known(SqlDataType::NVarChar),
-        6 => KnownDataType::Known(SqlDataType::NVarCharMax),
-        7 => KnownDataType::Known(SqlDataType::VarCharMax),
-        8 => KnownDataType::Known(SqlDataType::VarBinaryMax),
-        _ => KnownDataType::Unknown,
+        1 => Some(SqlDataType::TinyInt),
+        2 => Some(SqlDataType::SmallInt),
+        3 => Some(SqlDataType::Int),
+        4 => Some(SqlDataType::BigInt),
+        5 => Some(SqlDataType::NVarChar),
+        6 => Some(SqlDataType::NVarCharMax),
+        7 => Some(SqlDataType::VarCharMax),
+        8 => Some(SqlDataType::VarBinaryMax),
+        _ => None,
     }
 }
 
@@ -131,41 +126,35 @@ pub enum ColumnValue {
 }
 
 // The value that a script's value byte stands for, where it stands for one.
-#[derive(Clone, Copy)]
-pub enum KnownColumnValue {
-    Known(ColumnValue),
-    Unknown,
-}
-
-pub fn column_value_of(b: u8) -> KnownColumnValue
+pub fn column_value_of(b: u8) -> Option<ColumnValue>
     ensures { result ≡ column_value_of b }
 {
     match b {
-        1 => KnownColumnValue::Known(ColumnValue::TinyInt),
-        2 => KnownColumnValue::Known(ColumnValue::SmallInt),
-        3 => KnownColumnValue::Known(ColumnValue::Int),
-        4 => KnownColumnValue::Known(ColumnValue::BigInt),
-        5 => KnownColumnValue::Known(ColumnValue::NVarChar),
-        6 => KnownColumnValue::Known(ColumnValue::NVarCharMax),
-        7 => KnownColumnValue::Known(ColumnValue::NVarCharMaxNull),
-        8 => KnownColumnValue::Known(ColumnValue::VarCharMax),
-        9 => KnownColumnValue::Known(ColumnValue::VarBinaryMax),
-        10 => KnownColumnValue::Known(ColumnValue::Null),
-        _ => KnownColumnValue::Unknown,
+        1 => Some(ColumnValue::TinyInt),
+        2 => Some(ColumnValue::SmallInt),
+        3 => Some(ColumnValue::Int),
+        4 => Some(ColumnValue::BigInt),
+        5 => Some(ColumnValue::NVarChar),
+        6 => Some(ColumnValue::NVarCharMax),
+        7 => Some(ColumnValue::NVarCharMaxNull),
+        8 => Some(ColumnValue::VarCharMax),
+        9 => Some(ColumnValue::VarBinaryMax),
+        10 => Some(ColumnValue::Null),
+        _ => None,
     }
 }
 
 // The most units of a column, server or procedure name: a B_VARCHAR counts them in one byte.
 pub const MOST_NAME_UNITS: usize = 255;
 
-// The refusal of a name by its length, or none.
-pub fn name_fault(name: &[u8]) -> u8
-    ensures { result ≡ name_fault name.now }
+// Whether a name is not too long, or its refusal.
+pub fn name_fault(name: &[u8]) -> Result<(), Refusal>
+    ensures { refused_by result ≡ name_fault name.now }
 {
     if MOST_NAME_UNITS < text::units(name) {
-        NAME_TOO_LONG
+        Err(Refusal::NameTooLong)
     } else {
-        NONE
+        Ok(())
     }
 }
 
@@ -214,24 +203,29 @@ fn put_b_varchar(buf: &mut [u8], at: usize, text: &[u8]) -> usize
     wire::put_slice(buf, next, text)
 }
 
-// An ERROR or INFO up to its texts.
-fn put_message_head(
-    buf: &mut [u8],
-    at: usize,
-    kind: u8,
-    size: u16,
-    number: u32,
-    state: u8,
-    class: u8,
-) -> usize
-    ensures buf_after { buf.new ≡ overwrite buf.old at (flat (message_head kind size number state class [])) }
-    ensures place_after { PlaceAfter buf.old at (flat (message_head kind size number state class [])) result }
+// An ERROR or INFO by its kind, and what it says.
+#[derive(Clone, Copy)]
+pub struct Message<'a> {
+    pub kind: u8,
+    pub number: u32,
+    pub state: u8,
+    pub class: u8,
+    pub text: &'a [u8],
+    pub server: &'a [u8],
+    pub procedure: &'a [u8],
+    pub line: u32,
+}
+
+// An ERROR or INFO of a size up to its texts.
+fn put_message_head(buf: &mut [u8], at: usize, size: u16, m: &Message) -> usize
+    ensures buf_after { buf.new ≡ overwrite buf.old at (flat (message_head m.now.kind size m.now.number m.now.state m.now.class [])) }
+    ensures place_after { PlaceAfter buf.old at (flat (message_head m.now.kind size m.now.number m.now.state m.now.class [])) result }
 {
-    let a = wire::put_u8(buf, at, kind);
+    let a = wire::put_u8(buf, at, m.kind);
     let b = wire::put_u16_le(buf, a, size);
-    let c = wire::put_u32_le(buf, b, number);
-    let d = wire::put_u8(buf, c, state);
-    wire::put_u8(buf, d, class)
+    let c = wire::put_u32_le(buf, b, m.number);
+    let d = wire::put_u8(buf, c, m.state);
+    wire::put_u8(buf, d, m.class)
 }
 
 // The length of an ERROR or INFO, modulo 65,536.
@@ -242,28 +236,17 @@ fn message_length(text: &[u8], server: &[u8], procedure: &[u8]) -> u16
     ((14 + texts) % 65536) as u16
 }
 
-// ERROR or INFO by its kind.
-pub fn put_message(
-    buf: &mut [u8],
-    at: usize,
-    kind: u8,
-    number: u32,
-    state: u8,
-    class: u8,
-    text: &[u8],
-    server: &[u8],
-    procedure: &[u8],
-    line: u32,
-) -> usize
-    ensures buf_after { buf.new ≡ overwrite buf.old at (token_bytes (message kind number state class text.now server.now procedure.now line)) }
-    ensures place_after { PlaceAfter buf.old at (token_bytes (message kind number state class text.now server.now procedure.now line)) result }
+// A message, with the length of what follows its length.
+pub fn put_message(buf: &mut [u8], at: usize, m: &Message) -> usize
+    ensures buf_after { buf.new ≡ overwrite buf.old at (token_bytes (message m.now.kind m.now.number m.now.state m.now.class m.now.text.now m.now.server.now m.now.procedure.now m.now.line)) }
+    ensures place_after { PlaceAfter buf.old at (token_bytes (message m.now.kind m.now.number m.now.state m.now.class m.now.text.now m.now.server.now m.now.procedure.now m.now.line)) result }
 {
-    let size = message_length(text, server, procedure);
-    let a = put_message_head(buf, at, kind, size, number, state, class);
-    let b = put_us_varchar(buf, a, text);
-    let c = put_b_varchar(buf, b, server);
-    let d = put_b_varchar(buf, c, procedure);
-    wire::put_u32_le(buf, d, line)
+    let size = message_length(m.text, m.server, m.procedure);
+    let a = put_message_head(buf, at, size, m);
+    let b = put_us_varchar(buf, a, m.text);
+    let c = put_b_varchar(buf, b, m.server);
+    let d = put_b_varchar(buf, c, m.procedure);
+    wire::put_u32_le(buf, d, m.line)
 }
 
 // A column's user type, flags, code and length.
@@ -292,7 +275,7 @@ pub fn put_column(buf: &mut [u8], at: usize, t: SqlDataType, collation: &[u8], n
     put_b_varchar(buf, b, name)
 }
 
-// A cell of an integer, by the number of its bytes.
+// A cell of an integer, by the number of its bytes. One function for each: a generic one would need a trait for the writers of wire.
 pub fn put_tinyint(buf: &mut [u8], at: usize, v: u8) -> usize
     ensures buf_after { buf.new ≡ overwrite buf.old at (token_bytes (cell (integer 1 v))) }
     ensures place_after { PlaceAfter buf.old at (token_bytes (cell (integer 1 v))) result }

@@ -11,7 +11,7 @@ use Rattle.wire.specs.Le.{le_at, le}
 use Rattle.wire.specs.Be.{first, be_at, be}
 use Rattle.wire.proofs.Le.{le-cat, le_split, length-le}
 
-length-first : (k : ℕ) (l : List ℕ) → length (first k l) ≡ k
+pub length-first : (k : ℕ) (l : List ℕ) → length (first k l) ≡ k
 unfolding first
 length-first zero l = refl
 length-first (suc k) [] = ap suc (length-first k [])

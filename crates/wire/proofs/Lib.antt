@@ -3,6 +3,7 @@ pub mod Be
 pub mod Cases
 pub mod Rising
 pub mod Over
+pub mod Std
 pub mod Fields
 pub mod Parts
 pub mod Octets

@@ -1,20 +1,21 @@
 -- `capture_marks::is_marked` meets its contract. Assumes nothing.
-use mathlib.Core.Path.{sym, ◌∙◌}
-use Rattle.capture_marks.specs.Marks.{is_marked}
+use mathlib.Core.Path.{◌≡◌, refl, ◌∙◌}
+use Prim.Native.Nat.{ℕ}
+use lib.Dec.{eqb}
+use Rattle.std.specs.Prelude.{Result, Ok, Err}
+use Rattle.std.specs.Result.{result_eq}
+use Rattle.request.specs.declared.HeadersFault.{HeadersFault}
+use Rattle.request.specs.declared.HeadersFault.TheVariants.{Short, TooSmall, PastEnd}
+use Rattle.request.specs.contracts.HeadersFaultPartialEq.TheImpl as same
+use Rattle.capture_marks.specs.Marks.{too_small, is_marked}
 use Rattle.capture_marks.proofs.is_marked.Goals as goal
 
-pub returns-in-Short : goal.returns-in-Short
-unfolding is_marked
-returns-in-Short c = rw (sym c.all_headers.ensures ∙ c.in-Short.is)
+tested : (h : Result ℕ HeadersFault) → result_eq eqb same.eq-value.it h (Err TooSmall) ≡ too_small h
+tested (Ok n) = refl
+tested (Err Short) = refl
+tested (Err TooSmall) = refl
+tested (Err PastEnd) = refl
 
-pub returns-in-TooSmall : goal.returns-in-TooSmall
+pub returns : goal.returns
 unfolding is_marked
-returns-in-TooSmall c = rw (sym c.all_headers.ensures ∙ c.in-TooSmall.is)
-
-pub returns-in-PastEnd : goal.returns-in-PastEnd
-unfolding is_marked
-returns-in-PastEnd c = rw (sym c.all_headers.ensures ∙ c.in-PastEnd.is)
-
-pub returns-in-Length : goal.returns-in-Length
-unfolding is_marked
-returns-in-Length c = rw (sym c.all_headers.ensures ∙ c.in-Length.is)
+returns c = c.eq.ensures ∙ rw (← c.all_headers.ensures) (tested c.all_headers.result)

@@ -1,6 +1,7 @@
 -- `payload::number_across` meets its contract. Assumes nothing.
 use mathlib.Core.Path.{sym, ◌∙◌}
 use native.Mathlib.Omega.{arith}
+use Rattle.std.proofs.lemmas.Result.{err_from_is_err_and}
 use Rattle.payload.proofs.Reach.{byte-within}
 use Rattle.payload.proofs.CodeNumbers.{across-nowhere, across-begins, across-past, across-more, across-room, across-ends}
 use Rattle.payload.proofs.number_across.Goals as goal
@@ -17,29 +18,28 @@ overflow_add-at c = omega (arith, c.loop-i.invariant.fits)
 pub walk-requires : goal.walk-requires
 walk-requires c = c.loop-i.invariant.lies
 
-pub returns-in-Past : goal.returns-in-Past
-returns-in-Past c = (across-past c.loop-i.invariant c.loop-i-test.true (sym c.walk.ensures ∙ c.in-Past.is), tt)
+pub returns-in_err-here : goal.returns-in_err-here
+returns-in_err-here c =
+    let p = err_from_is_err_and c.from_residual.result c.from_residual.ensures.1 in
+    rw (p.1, p.2) (across-past c.loop-i.invariant c.loop-i-test.true (rw c.in_err-here.was at (sym c.walk.ensures)), tt)
 
-pub overflow_add-at-in-In : goal.overflow_add-at-in-In
-overflow_add-at-in-In c = omega (arith, c.loop-i.invariant.fits)
+pub overflow_mul-here : goal.overflow_mul-here
+overflow_mul-here c = omega (arith, byte-within _ _ _ (rw c.in_ok-here.was at (sym c.walk.ensures)))
 
-pub overflow_mul-next : goal.overflow_mul-next
-overflow_mul-next c = omega (arith, byte-within _ _ _ (sym c.walk.ensures ∙ c.in-In.is))
-
-pub overflow_add-at-in-In-2 : goal.overflow_add-at-in-In-2
-overflow_add-at-in-In-2 c = omega (arith, byte-within _ _ _ (sym c.walk.ensures ∙ c.in-In.is))
+pub overflow_add-at-in-loop-i-2 : goal.overflow_add-at-in-loop-i-2
+overflow_add-at-in-loop-i-2 c = omega (arith, byte-within _ _ _ (rw c.in_ok-here.was at (sym c.walk.ensures)))
 
 pub bounds-lent-at : goal.bounds-lent-at
-bounds-lent-at c = byte-within _ _ _ (sym c.walk.ensures ∙ c.in-In.is)
+bounds-lent-at c = byte-within _ _ _ (rw c.in_ok-here.was at (sym c.walk.ensures))
 
 pub worth-value-requires : goal.worth-value-requires
 worth-value-requires c = omega (arith, c.requires.1, c.loop-i-test.true)
 
 pub overflow_add-value : goal.overflow_add-value
-overflow_add-value c = omega (arith, across-room c.loop-i.invariant c.loop-i-test.true (sym c.walk.ensures ∙ c.in-In.is) c.worth-value.ensures.0 c.worth-value.ensures.1 c.requires.1)
+overflow_add-value c = omega (arith, across-room c.loop-i.invariant c.loop-i-test.true (rw c.in_ok-here.was at (sym c.walk.ensures)) c.worth-value.ensures.0 c.worth-value.ensures.1 c.requires.1)
 
 pub loop-i-preserved : goal.loop-i-preserved
-loop-i-preserved c = across-more c.loop-i.invariant c.loop-i-test.true (sym c.walk.ensures ∙ c.in-In.is) c.worth-value.ensures.0 c.worth-value.ensures.1 (omega arith)
+loop-i-preserved c = across-more c.loop-i.invariant c.loop-i-test.true (rw c.in_ok-here.was at (sym c.walk.ensures)) c.worth-value.ensures.0 c.worth-value.ensures.1 (omega arith)
 
 pub overflow_add-result : goal.overflow_add-result
 overflow_add-result c = omega (arith, c.loop-i.invariant.fits, c.loop-i.invariant.summed.within)

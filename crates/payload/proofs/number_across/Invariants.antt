@@ -1,10 +1,6 @@
 -- `payload::number_across` meets its contract. Assumes nothing.
-use Prim.Native.Nat.{◌-◌}
 use Rattle.payload.proofs.CodeNumbers.{Across}
 use Rattle.payload.proofs.number_across.Given as goal
 
 abbrev pub invariant-loop-i : goal.invariant-loop-i
 invariant-loop-i l = Across l.lent l.initial.here l.at l.k l.here l.value l.i
-
-abbrev pub decreases-loop-i : goal.decreases-loop-i
-decreases-loop-i l = l.k - l.i

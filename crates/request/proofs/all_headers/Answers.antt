@@ -1,7 +1,7 @@
 -- `request::all_headers` meets its contract. Assumes nothing.
 use mathlib.Core.Path.{sym, ap, ◌∙◌}
 use native.Mathlib.Omega.{arith}
-use Rattle.request.specs.declared.Headers.TheVariants.{Length}
+use Rattle.std.specs.Prelude.{Ok}
 use Rattle.request.proofs.Blocks.{is-short, is-small, is-past, is-length}
 use Rattle.request.proofs.all_headers.Goals as goal
 
@@ -15,4 +15,4 @@ pub returns-then-body-len : goal.returns-then-body-len
 returns-then-body-len c = sym (is-past _ (omega arith) (omega arith) (omega arith))
 
 pub returns : goal.returns
-returns c = ap Length c.get_u32_le-len.ensures ∙ sym (is-length _ (omega arith) (omega arith) (omega arith))
+returns c = ap Ok c.get_u32_le-len.ensures ∙ sym (is-length _ (omega arith) (omega arith) (omega arith))

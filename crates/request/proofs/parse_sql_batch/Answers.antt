@@ -1,35 +1,32 @@
 -- `request::parse_sql_batch` meets its contract. Assumes nothing.
 use Rattle.request.proofs.Blocks.{block_in}
 use mathlib.Core.Path.{sym, ◌∙◌}
-use borrow.Author.Tests.{eq-eqb, ne_eqb}
-use native.Mathlib.Omega.{arith}
-use lib.ListN.{length}
 use Rattle.request.specs.Batch.{sql_batch}
 use Rattle.request.proofs.parse_sql_batch.Goals as goal
 
-pub returns-then-body-eq0 : goal.returns-then-body-eq0
+pub returns-then-is_empty : goal.returns-then-is_empty
 unfolding sql_batch
-returns-then-body-eq0 c = let s = c.args.body.now in simp (eq-eqb (length s) 0 (omega arith))
+returns-then-is_empty c = simp (sym c.is_empty.ensures ∙ c.if-is_empty.true)
 
 pub batch_text-requires : goal.batch_text-requires
-batch_text-requires c = (block_in c.args.body.now (sym c.all_headers-headers.ensures ∙ c.in-Length.is)).1
+batch_text-requires c = (block_in c.args.body.now (sym c.all_headers.ensures ∙ c.in-Ok.is)).1
 
-pub returns-in-Short : goal.returns-in-Short
+pub returns-in-Err-Short : goal.returns-in-Err-Short
 unfolding sql_batch
-returns-in-Short c = let s = c.args.body.now in
-    simp (ne_eqb (length s) 0 (omega arith), ← c.all_headers-headers.ensures, c.in-Short.is)
+returns-in-Err-Short c =
+    simp (sym c.is_empty.ensures ∙ c.if-is_empty.false, ← c.all_headers.ensures, c.in-Err-Short.is, c.in-Err-Short.field-0-is)
 
-pub returns-in-TooSmall : goal.returns-in-TooSmall
+pub returns-in-Err-TooSmall : goal.returns-in-Err-TooSmall
 unfolding sql_batch
-returns-in-TooSmall c = let s = c.args.body.now in
-    simp (ne_eqb (length s) 0 (omega arith), ← c.all_headers-headers.ensures, c.in-TooSmall.is)
+returns-in-Err-TooSmall c =
+    simp (sym c.is_empty.ensures ∙ c.if-is_empty.false, ← c.all_headers.ensures, c.in-Err-TooSmall.is, c.in-Err-TooSmall.field-0-is)
 
-pub returns-in-PastEnd : goal.returns-in-PastEnd
+pub returns-in-Err-PastEnd : goal.returns-in-Err-PastEnd
 unfolding sql_batch
-returns-in-PastEnd c = let s = c.args.body.now in
-    simp (ne_eqb (length s) 0 (omega arith), ← c.all_headers-headers.ensures, c.in-PastEnd.is)
+returns-in-Err-PastEnd c =
+    simp (sym c.is_empty.ensures ∙ c.if-is_empty.false, ← c.all_headers.ensures, c.in-Err-PastEnd.is, c.in-Err-PastEnd.field-0-is)
 
-pub returns-in-Length : goal.returns-in-Length
+pub returns-in-Ok : goal.returns-in-Ok
 unfolding sql_batch
-returns-in-Length c = let s = c.args.body.now in
-    simp (ne_eqb (length s) 0 (omega arith), (sym c.all_headers-headers.ensures ∙ c.in-Length.is)) c.batch_text.ensures
+returns-in-Ok c =
+    simp (sym c.is_empty.ensures ∙ c.if-is_empty.false, sym c.all_headers.ensures ∙ c.in-Ok.is) c.batch_text.ensures

@@ -1,25 +1,23 @@
 -- `request::parse_transaction_descriptor_header` meets its contract. Assumes nothing.
 use native.Mathlib.Omega.{arith}
-use mathlib.Core.Path.{◌≡◌, refl, sym, ◌∙◌}
-use borrow.Enum.Refused.{opened}
-use Rattle.request.specs.Transaction.{transaction_descriptor, descriptor_after}
-use Rattle.request.proofs.Blocks.{block_in, no_block}
-use Rattle.request.specs.declared.Descriptor.TheVariants.{Missing}
+use mathlib.Core.Path.{sym, ◌∙◌}
+use Rattle.request.specs.Transaction.{transaction_descriptor}
+use Rattle.request.proofs.Blocks.{block_in}
 use Rattle.request.proofs.parse_transaction_descriptor_header.Goals as goal
 
 pub slice_bounds-descriptor_in-count : goal.slice_bounds-descriptor_in-count
-slice_bounds-descriptor_in-count c = omega (arith, (block_in _ (sym c.all_headers-headers.ensures ∙ c.in-Length.is)))
+slice_bounds-descriptor_in-count c = omega (arith, (block_in _ (sym c.all_headers.ensures ∙ c.in-Ok.is)))
 
 pub slice_bounds-descriptor_in-start : goal.slice_bounds-descriptor_in-start
-slice_bounds-descriptor_in-start c = omega (arith, (block_in _ (sym c.all_headers-headers.ensures ∙ c.in-Length.is)))
+slice_bounds-descriptor_in-start c = omega (arith, (block_in _ (sym c.all_headers.ensures ∙ c.in-Ok.is)))
 
 pub slice_bounds-descriptor_in-end : goal.slice_bounds-descriptor_in-end
-slice_bounds-descriptor_in-end c = omega (arith, (block_in _ (sym c.all_headers-headers.ensures ∙ c.in-Length.is)))
+slice_bounds-descriptor_in-end c = omega (arith, (block_in _ (sym c.all_headers.ensures ∙ c.in-Ok.is)))
 
-pub returns-in-Short : goal.returns-in-Short
+pub returns-in-Err : goal.returns-in-Err
 unfolding transaction_descriptor
-returns-in-Short c = rw (← c.all_headers-headers.ensures) (no_block (λ x. Missing ≡ descriptor_after c.args.body.now x) c.all_headers-headers.result (opened c.in-Short.in-Short-own.keys1) refl refl refl)
+returns-in-Err c = rw (sym c.all_headers.ensures ∙ c.in-Err.is)
 
-pub returns-in-Length : goal.returns-in-Length
+pub returns-in-Ok : goal.returns-in-Ok
 unfolding transaction_descriptor
-returns-in-Length c = rw (sym c.all_headers-headers.ensures ∙ c.in-Length.is) c.descriptor_in.ensures
+returns-in-Ok c = rw (sym c.all_headers.ensures ∙ c.in-Ok.is) c.descriptor_in.ensures

@@ -10,7 +10,7 @@ use Rattle.token.proofs.put_message.Goals as goal
 
 pub returns : goal.returns
 unfolding token_bytes flat
-returns c = let a = c.args in
+returns c = let a = c.args.m.now in
     let t = a.text.now in
     let v = a.server.now in
     let p = a.procedure.now in

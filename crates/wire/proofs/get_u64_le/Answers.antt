@@ -1,11 +1,8 @@
 -- `wire::get_u64_le` meets its contract. Assumes nothing.
-use mathlib.Core.Path.{sym}
-use Rattle.wire.proofs.Le.{le_join, le-past}
+use mathlib.Core.Path.{◌∙◌}
+use lib.ListN.{drop}
+use Rattle.wire.proofs.Std.{le-std}
 use Rattle.wire.proofs.get_u64_le.Goals as goal
 
-pub returns-then-s-at : goal.returns-then-s-at
-returns-then-s-at c = sym (le-past 8 _ _ c.if-s-at.true)
-
 pub returns : goal.returns
-returns c = let a = c.args in
-    cc (le_join 4 4 a.at a.s.now)
+returns c = let a = c.args in rw c.bytes_at.ensures at c.from_le_bytes.ensures ∙ le-std 7 (drop a.at a.s.now)

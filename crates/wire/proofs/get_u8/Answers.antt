@@ -1,10 +1,9 @@
 -- `wire::get_u8` meets its contract. Assumes nothing.
-use mathlib.Core.Path.{sym}
-use Rattle.wire.proofs.Le.{le-one, le-past}
+use Rattle.std.proofs.Common.{◌≡◌, ◌∙◌, sym, get_or, arith}
+use Rattle.std.proofs.lemmas.Grind.{common_steps}
+use Rattle.wire.proofs.Std.{le-get}
 use Rattle.wire.proofs.get_u8.Goals as goal
 
-pub returns-then-at-s : goal.returns-then-at-s
-returns-then-at-s c = sym (le-one _ _ c.if-at-s.true)
-
-pub returns-else-at-s : goal.returns-else-at-s
-returns-else-at-s c = sym (le-past 1 _ _ c.if-at-s.false)
+pub returns : goal.returns
+returns c = let a = c.args in
+    let e : c.unwrap_or.result ≡ get_or a.s.now a.at 0 = grind (arith, common_steps) in e ∙ sym (le-get a.at a.s.now)

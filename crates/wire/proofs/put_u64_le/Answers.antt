@@ -1,9 +1,9 @@
 -- `wire::put_u64_le` meets its contract. Assumes nothing.
-use mathlib.Core.Path.{sym}
-use Rattle.wire.proofs.Over.{wrote, then, wrote_as}
-use Rattle.wire.proofs.Le.{le_split}
+use mathlib.Core.Path.{◌∙◌}
+use Rattle.wire.proofs.Over.{wrote, wrote_as}
+use Rattle.wire.proofs.Std.{bytes-std}
 use Rattle.wire.proofs.put_u64_le.Goals as goal
 
 pub returns : goal.returns
-returns c = let a = c.args in
-    let w = wrote_as (then (wrote c.put_u32_le-next.ensures.buf_after c.put_u32_le-next.ensures.place_after) (wrote c.put_u32_le.ensures.buf_after c.put_u32_le.ensures.place_after)) (sym (le_split 4 4 a.v)) in record { buf_after = w.0; place_after = w.1 }
+returns c =
+    let w = wrote_as (wrote c.put_bytes.ensures.buf_after c.put_bytes.ensures.place_after) (c.to_le_bytes.ensures ∙ bytes-std 8 c.args.v) in record { buf_after = w.0; place_after = w.1 }

@@ -13,13 +13,13 @@ returns-then-lent-at c = let a = c.args in sym (is-short a.lent.now a.at a.numbe
 pub returns-then-ended-2 : goal.returns-then-ended-2
 returns-then-ended-2 c = let a = c.args in sym (is-more a.lent.now a.at a.number c.if-lent-at.false c.if-ended-2.true)
 
-pub returns-then-length-eq0 : goal.returns-then-length-eq0
-returns-then-length-eq0 c = let a = c.args in index-fault a.lent.now a.at a.number c.if-lent-at.false c.if-ended-2.false c.next_length-length.ensures c.if-length-eq0.true c.fault_in.ensures
+pub returns-in_default : goal.returns-in_default
+returns-in_default c = let a = c.args in index-fault a.lent.now a.at a.number c.if-lent-at.false c.if-ended-2.false c.next_length.ensures c.in_default.is c.fault_in.ensures
 
 pub overflow_sub-result : goal.overflow_sub-result
-overflow_sub-result c = omega (arith, next-size _ _ c.next_length-length.ensures c.if-length-eq0.false)
+overflow_sub-result c = omega (arith, next-size _ _ c.next_length.ensures c.in-Some.is)
 
 pub returns : goal.returns
 returns c = let a = c.args in
-    index-next a.lent.now a.at a.number c.if-lent-at.false c.if-ended-2.false c.next_length-length.ensures c.if-length-eq0.false
+    index-next a.lent.now a.at a.number c.if-lent-at.false c.if-ended-2.false c.next_length.ensures c.in-Some.is
     (rw (sym c.get_u8.ensures) c.is_end_of_message.ensures)

@@ -1,42 +1,32 @@
 -- `payload::frames::resolve` meets its contract. Assumes nothing.
-use mathlib.Core.Path.{sym, ◌∙◌}
+use mathlib.Core.Path.{sym}
 use native.Mathlib.Omega.{arith}
-use Rattle.payload.proofs.Spots.{walking-first, walking_after, walking-fits, walking_on, walk-stop, walk_ends, walk_none}
-use Rattle.payload.proofs.Onto.{lying, over-of, broken-of, bad-of, begun-by, first-of, no-over, no-broken, no-bad}
+use Rattle.payload.proofs.Spots.{walking-first, walking_end, walking-fits, walking_on, walk-stop, walk_ends, walk_none}
+use Rattle.payload.proofs.Onto.{lying, first-is, none-is}
 use Rattle.payload.proofs.frames.resolve.Goals as goal
 
-pub returns-in-Over : goal.returns-in-Over
-returns-in-Over c = let a = c.args in walk_none a.lent.now _ _ (no-over (rw (sym c.first.ensures ∙ c.in-Over.is) at (begun-by a.lent.now)))
-
-pub returns-in-Broken : goal.returns-in-Broken
-returns-in-Broken c = let a = c.args in walk_none a.lent.now _ _ (no-broken (rw (sym c.first.ensures ∙ c.in-Broken.is) at (begun-by a.lent.now)))
-
-pub returns-in-Bad : goal.returns-in-Bad
-returns-in-Bad c = let a = c.args in walk_none a.lent.now _ _ (no-bad (rw (sym c.first.ensures ∙ c.in-Bad.is) at (begun-by a.lent.now)))
+pub returns-in-Err : goal.returns-in-Err
+returns-in-Err c = let a = c.args in rw c.lost.ensures (walk_none a.lent.now _ _ (none-is _ c.first.ensures c.in-Err.is))
 
 pub overflow_add-at : goal.overflow_add-at
-overflow_add-at c = let a = c.args in let o = first-of (rw (sym c.first.ensures ∙ c.in-To.is) at (begun-by a.lent.now)) in omega (arith, lying _ _ o.lies, o.number)
+overflow_add-at c = let o = first-is _ c.first.ensures c.in-Ok.is in omega (arith, lying _ _ o.lies, o.number)
 
 pub loop-number-init : goal.loop-number-init
-loop-number-init c = let a = c.args in walking-first _ _ (first-of (rw (sym c.first.ensures ∙ c.in-To.is) at (begun-by a.lent.now)))
+loop-number-init c = walking-first _ _ (first-is _ c.first.ensures c.in-Ok.is)
 
-pub overflow_add-at-in-Packet : goal.overflow_add-at-in-Packet
-overflow_add-at-in-Packet c = omega (arith, walking-fits c.loop-number.invariant (sym c.packet_at.ensures ∙ c.in-Packet.is))
+pub overflow_add-at-in-Ok-packet_at : goal.overflow_add-at-in-Ok-packet_at
+overflow_add-at-in-Ok-packet_at c = omega (arith, walking-fits c.loop-number.invariant (sym (rw c.in-Ok-packet_at.is at c.packet_at.ensures)))
 
-pub overflow_add-at-in-Packet-2 : goal.overflow_add-at-in-Packet-2
-overflow_add-at-in-Packet-2 c = omega (arith, walking-fits c.loop-number.invariant (sym c.packet_at.ensures ∙ c.in-Packet.is))
+pub overflow_add-at-in-Ok-packet_at-2 : goal.overflow_add-at-in-Ok-packet_at-2
+overflow_add-at-in-Ok-packet_at-2 c = omega (arith, walking-fits c.loop-number.invariant (sym (rw c.in-Ok-packet_at.is at c.packet_at.ensures)))
 
 pub loop-number-preserved : goal.loop-number-preserved
-loop-number-preserved c = walking_on c.loop-number.invariant c.loop-number-test.true (sym c.packet_at.ensures ∙ c.in-Packet.is)
+loop-number-preserved c = walking_on c.loop-number.invariant c.loop-number-test.true (sym (rw c.in-Ok-packet_at.is at c.packet_at.ensures))
 
-pub returns-in-Over-packet_at : goal.returns-in-Over-packet_at
-returns-in-Over-packet_at c = walk-stop _ _ c.loop-number.invariant.walked c.loop-number-test.true (over-of (walking_after c.loop-number.invariant (sym c.packet_at.ensures ∙ c.in-Over-packet_at.is)))
-
-pub returns-in-Broken-packet_at : goal.returns-in-Broken-packet_at
-returns-in-Broken-packet_at c = walk-stop _ _ c.loop-number.invariant.walked c.loop-number-test.true (broken-of (walking_after c.loop-number.invariant (sym c.packet_at.ensures ∙ c.in-Broken-packet_at.is)))
-
-pub returns-in-Bad-packet_at : goal.returns-in-Bad-packet_at
-returns-in-Bad-packet_at c = walk-stop _ _ c.loop-number.invariant.walked c.loop-number-test.true (bad-of (walking_after c.loop-number.invariant (sym c.packet_at.ensures ∙ c.in-Bad-packet_at.is)))
+pub returns-in-Err-packet_at : goal.returns-in-Err-packet_at
+returns-in-Err-packet_at c =
+    rw c.lost-in-Err-packet_at.ensures
+    (walk-stop _ _ c.loop-number.invariant.walked c.loop-number-test.true (walking_end c.loop-number.invariant (sym (rw c.in-Err-packet_at.is at c.packet_at.ensures))))
 
 pub returns-then-packet-eq0 : goal.returns-then-packet-eq0
 returns-then-packet-eq0 c = sym (c.loop-number.invariant.walked.none c.if-packet-eq0.true)

@@ -1,7 +1,7 @@
 -- `packet::PacketType::try_from` meets its contract. Assumes nothing.
 use borrow.Author.Tests.{ne_eqb}
 use Rattle.packet.specs.Types.{type_of, types, type_in}
-use Rattle.packet.proofs.PacketType.try_from.Goals as goal
+use Rattle.packet.proofs.PacketTypeTryFromU8.try_from.Goals as goal
 
 pub returns-in-1 : goal.returns-in-1
 unfolding type_of types type_in
