@@ -3,11 +3,14 @@ use mathlib.Core.Path.{◌≡◌, refl, sym, ap, ◌∙◌}
 use mathlib.Core.Bool.{Bool, true, false, cond, not, ◌||◌}
 use Rattle.std.specs.Prelude.{Option, Some, None, Result, Ok, Err}
 use mathlib.Core.List.{List}
+use mathlib.Core.Logic.{◌≢◌}
 use Prim.Native.Nat.{ℕ, suc, ◌+◌, ◌*◌, ◌≤◌, ◌<◌}
 use native.Mathlib.Omega.{arith}
 use borrow.Author.Tests.{le-ltb, lt-ltb, leb-true, eq-eqb, ne_eqb}
 use lib.Dec.{eqb, leb}
 use lib.ListN.{length}
+use Rattle.refusals.specs.declared.Refusal.{Refusal}
+use Rattle.refusals.specs.Refused.{number, numbered}
 use Rattle.refusals.specs.Numbers.{inner_wrong, result_too_long, buffer_too_short}
 use Rattle.wire.specs.declared.Part.{Part}
 use Rattle.wire.proofs.Cases.{by-test, clash}
@@ -15,8 +18,6 @@ use Rattle.wire.specs.Over.{overwrite}
 use Rattle.wire.specs.Even.{even}
 use Rattle.payload.specs.Places.{Source, Read, whole, refused, number_at, must, body_source}
 use Rattle.payload.specs.declared.NumberAt.{NumberAt}
-use Rattle.payload.specs.declared.NumberRead.{NumberRead}
-use Rattle.payload.specs.declared.NumberRead.TheVariants as number
 use Rattle.payload.specs.Answers.{number_read}
 use Rattle.payload.specs.declared.frames.Frame.{Frame}
 use Rattle.payload.specs.Frames.{source_from, body_frame}
@@ -26,8 +27,6 @@ use Rattle.cells.specs.declared.Value.{Value}
 use Rattle.cells.specs.declared.Value.TheVariants as cell
 use Rattle.cells.specs.Cells.{is_type, cell_at, chunks_at, max_at}
 use Rattle.cells.specs.declared.ChunksAt.{ChunksAt}
-use Rattle.cells.specs.declared.ChunksRead.{ChunksRead}
-use Rattle.cells.specs.declared.ChunksRead.TheVariants as chunks
 use Rattle.cells.specs.Answers.{chunks_read}
 use Rattle.cells.proofs.CodeChunks.{chunks-is, chunks-is-not}
 use Rattle.windows1252.specs.Table.{text_of}
@@ -46,7 +45,8 @@ next_of : (b : Bool) (n stop at : ℕ) {m : NumberAt} → cond b (whole n at) (r
 next_of true n stop at e = cc
 next_of false n stop at e = clash (cc)
 
-pub number-next : (k : ℕ) (src : Source) (at : ℕ) {r : NumberRead} {m : NumberAt} → r ≡ number_read (number_at k src at whole) → r ≡ number.Whole m → m.next ≡ at + k
+pub number-next : (k : ℕ) (src : Source) (at : ℕ) {r : Result NumberAt Refusal} {m : NumberAt} → numbered r ≡ number_read (number_at k src at whole) → r ≡ Ok m
+    → m.next ≡ at + k
 unfolding number_at
 number-next k src at {m = m} e f = next_of (leb (at + k) (length src.bytes)) _ src.stop (at + k) {m = m} (number_is (number_at k src at whole) e f)
 
@@ -66,32 +66,33 @@ shown-size bs = by-test (leb (length bs) most_characters) (λ t. rw (t, length-t
 pub text-size : (v : List ℕ) (part : Part) (at : ℕ) {count : ℕ} → count ≡ length (chunks_joined v) → text_at (length v) at count ≡ size_of (wholly v (whole (cell.Max part) at))
 text-size v part at e = by-test (eqb at (length v)) (λ t. rw (t, e) (shown-size (chunks_joined v))) (λ t. rw t)
 
-module _ (v : List ℕ) {frame : Frame} (b : frame ≡ body_frame (length v)) {r : NumberRead} (e : r ≡ number_read (number_at 8 (source_from v frame) 0 whole)) where
-  total-read : r ≡ number_read (number_at 8 (body_source v) 0 whole)
+module _ (v : List ℕ) {frame : Frame} (b : frame ≡ body_frame (length v)) {r : Result NumberAt Refusal}
+    (e : numbered r ≡ number_read (number_at 8 (source_from v frame) 0 whole)) where
+  total-read : numbered r ≡ number_read (number_at 8 (body_source v) 0 whole)
   total-read = rw (body-read v b) at e
 
   -- the total is cut
-  pub total-cut : {n : ℕ} → r ≡ number.Refused n → Err n ≡ size_of (read_of v)
+  pub total-cut : {n : Refusal} → r ≡ Err n → Err (number n) ≡ size_of (read_of v)
   unfolding max_at
   total-cut f = sym (ap size_of (read_by v (number-not 8 (body_source v) 0 _ total-read f)))
 
-  module _ {m : NumberAt} (f : r ≡ number.Whole m) where
+  module _ {m : NumberAt} (f : r ≡ Ok m) where
     pub null-read : {a : Result (Option ℕ) ℕ} → m.value ≡ 0xFFFFFFFFFFFFFFFF → a ≡ null_at (length v) m.next → a ≡ size_of (read_of v)
     unfolding max_at
     null-read q g = g ∙ null_size v m.next ∙ sym (ap size_of (read_by v (number-got 8 (body_source v) 0 _ total-read f ∙ if-so _ _ (eq-eqb _ _ q))))
 
-    module _ (q : m.value ≡ 0xFFFFFFFFFFFFFFFF → ⊥) {k : ChunksRead}
-        (g : k ≡ chunks_read (source_from v frame) m.next (chunks_at (suc (length (source_from v frame).bytes)) false (not (eqb m.value 0xFFFFFFFFFFFFFFFE)) (source_from v frame) m.next m.value m.next)) where
-      chunks-read : k ≡ chunks_read (body_source v) m.next (chunks_at (suc (length v)) false (not (eqb m.value 0xFFFFFFFFFFFFFFFE)) (body_source v) m.next m.value m.next)
+    module _ (q : m.value ≢ 0xFFFFFFFFFFFFFFFF) {k : Result ChunksAt Refusal}
+        (g : numbered k ≡ chunks_read (source_from v frame) m.next (chunks_at (suc (length (source_from v frame).bytes)) false (not (eqb m.value 0xFFFFFFFFFFFFFFFE)) (source_from v frame) m.next m.value m.next)) where
+      chunks-read : numbered k ≡ chunks_read (body_source v) m.next (chunks_at (suc (length v)) false (not (eqb m.value 0xFFFFFFFFFFFFFFFE)) (body_source v) m.next m.value m.next)
       chunks-read = rw (body-read v b) at g
 
-      pub chunks-cut : {n : ℕ} → k ≡ chunks.Refused n → Err n ≡ size_of (read_of v)
+      pub chunks-cut : {n : Refusal} → k ≡ Err n → Err (number n) ≡ size_of (read_of v)
       unfolding max_at
       chunks-cut h =
           sym (ap size_of (read_by v (number-got 8 (body_source v) 0 _ total-read f ∙ if-not _ _ (ne_eqb _ _ q) ∙ must-hold _ _ (either_true (even m.value))
           ∙ then-not _ (chunks-is-not (body_source v) _ _ chunks-read h))))
 
-      pub text-read : {n : ChunksAt} {a : Result (Option ℕ) ℕ} → k ≡ chunks.Whole n → a ≡ text_at (length v) n.next n.count → a ≡ size_of (read_of v)
+      pub text-read : {n : ChunksAt} {a : Result (Option ℕ) ℕ} → k ≡ Ok n → a ≡ text_at (length v) n.next n.count → a ≡ size_of (read_of v)
       unfolding max_at chunks_joined
       text-read {n} h w =
           let is = chunks-is (body_source v) _ _ chunks-read h in

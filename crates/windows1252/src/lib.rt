@@ -50,18 +50,12 @@ fn measured(value: &[u8]) -> Result<Option<usize>, Refusal>
     ensures { numbered result ≡ size_of (read_of value.now) }
 {
     let frame = body(value);
-    let total = match u64_at(value, frame, 0) {
-        payload::NumberRead::Refused(_) => return Err(Refusal::Cut),
-        payload::NumberRead::Whole(n) => n,
-    };
+    let total = u64_at(value, frame, 0)?;
     if total.value == NULL_TOTAL {
         return null_at(value, total.next);
     }
     let known = total.value != UNKNOWN_TOTAL;
-    let chunks = match chunks_at(value, frame, total.next, false, known, total.value as usize) {
-        cells::ChunksRead::Refused(_) => return Err(Refusal::Cut),
-        cells::ChunksRead::Whole(n) => n,
-    };
+    let chunks = chunks_at(value, frame, total.next, false, known, total.value as usize)?;
     text_at(value, chunks.next, chunks.count)
 }
 
