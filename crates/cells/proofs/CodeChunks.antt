@@ -11,14 +11,15 @@ use borrow.Author.Tests.{leb-true, eqb-true}
 use Rattle.wire.proofs.Cases.{clash}
 use Rattle.wire.specs.Le.{le_at}
 use Rattle.wire.specs.declared.Part.{Part}
-use Rattle.cells.specs.declared.ChunkRead.{ChunkRead}
-use Rattle.cells.specs.declared.ChunkRead.TheVariants as chunk
+use Rattle.std.specs.Prelude.{Result, Ok, Err}
+use Rattle.refusals.specs.declared.Refusal.{Refusal}
+use Rattle.refusals.specs.Refused.{number, numbered}
+use Rattle.cells.specs.declared.Chunk.{Chunk}
+use Rattle.cells.specs.declared.Chunk.TheVariants as chunk
 use Rattle.payload.specs.Places.{Source, Place, Read, whole, refused, number_at, part_at, must, then, part_to}
 use Rattle.cells.specs.Cells.{is_chunk, is_last, chunk_at, chunks_at}
 use Rattle.cells.specs.Code.{chunk_read}
 use Rattle.cells.specs.declared.ChunksAt.{ChunksAt}
-use Rattle.cells.specs.declared.ChunksRead.{ChunksRead}
-use Rattle.cells.specs.declared.ChunksRead.TheVariants as chunks
 use Rattle.cells.specs.Answers.{chunks_read}
 use Rattle.cells.specs.Values.{joined_from}
 use Rattle.cells.proofs.Joined.{joined-turn, joined_end}
@@ -40,34 +41,46 @@ last-of : (b : Bool) (m at to : ℕ) → eqb m 0 ≡ b → cond b (chunk.Last at
 last-of true m at to q e = let f : m ≡ 0 = eqb-true m 0 q in cc
 last-of false m at to q e = clash (cc)
 
-none_of : (b : Bool) (m at n : ℕ) → cond b (chunk.Last at) (chunk.More m at) ≡ chunk.Refused n → whole m at ≡ refused n
-none_of true m at n e = clash (cc)
-none_of false m at n e = clash (cc)
+pub more-is : (x : Read ℕ) {r : Result Chunk Refusal} {n to : ℕ} → numbered r ≡ chunk_read x → r ≡ Ok (chunk.More n to) → (x ≡ whole n to) × (eqb n 0 ≡ false)
+more-is x {n = n} {to = to} e f = go x (rw f at e)
+  where
+    go : (x : Read ℕ) → Ok (chunk.More n to) ≡ chunk_read x → (x ≡ whole n to) × (eqb n 0 ≡ false)
+    go (whole m at) e = more_of (eqb m 0) m at n to refl (cc)
+    go (refused m) e = clash (cc)
 
-pub more-is : (x : Read ℕ) {r : ChunkRead} {n to : ℕ} → r ≡ chunk_read x → r ≡ chunk.More n to → (x ≡ whole n to) × (eqb n 0 ≡ false)
-more-is (whole m at) e f = more_of (eqb m 0) m at _ _ refl (sym e ∙ f)
-more-is (refused m) e f = clash (cc)
+pub last-is : (x : Read ℕ) {r : Result Chunk Refusal} {to : ℕ} → numbered r ≡ chunk_read x → r ≡ Ok (chunk.Last to) → x ≡ whole 0 to
+last-is x {to = to} e f = go x (rw f at e)
+  where
+    go : (x : Read ℕ) → Ok (chunk.Last to) ≡ chunk_read x → x ≡ whole 0 to
+    go (whole m at) e = last-of (eqb m 0) m at to refl (cc)
+    go (refused m) e = clash (cc)
 
-pub last-is : (x : Read ℕ) {r : ChunkRead} {to : ℕ} → r ≡ chunk_read x → r ≡ chunk.Last to → x ≡ whole 0 to
-last-is (whole m at) e f = last-of (eqb m 0) m at _ refl (sym e ∙ f)
-last-is (refused m) e f = clash (cc)
-
-pub chunk-is-not : (x : Read ℕ) {r : ChunkRead} {n : ℕ} → r ≡ chunk_read x → r ≡ chunk.Refused n → x ≡ refused n
-chunk-is-not (whole m at) e f = none_of (eqb m 0) m at _ (sym e ∙ f)
-chunk-is-not (refused m) e f = cc
+pub chunk-is-not : (x : Read ℕ) {r : Result Chunk Refusal} {m : Refusal} → numbered r ≡ chunk_read x → r ≡ Err m → x ≡ refused (number m)
+chunk-is-not x {m = m} e f = go x (rw f at e)
+  where
+    go : (x : Read ℕ) → Err (number m) ≡ chunk_read x → x ≡ refused (number m)
+    go (whole n at) e = clash (cc)
+    go (refused n) e = cc
 
 -- ---- what the answer for chunks tells
 
-pub chunks-is : (src : Source) (start : Place) (x : Read Part) {r : ChunksRead} {n : ChunksAt} → r ≡ chunks_read src start x → r ≡ chunks.Whole n
+pub chunks-is : (src : Source) (start : Place) (x : Read Part) {r : Result ChunksAt Refusal} {n : ChunksAt} → numbered r ≡ chunks_read src start x → r ≡ Ok n
     → (x ≡ whole n.part n.next) × (n.count ≡ length (joined_from src.bytes start))
-chunks-is src start (whole v to) {n = n} e f =
-    let q : n ≡ record { part = v; count = length (joined_from src.bytes start); next = to } = cc in
-    (rw q, rw q)
-chunks-is src start (refused m) e f = clash (cc)
+chunks-is src start x {n = n} e f = go x (rw f at e)
+  where
+    go : (x : Read Part) → Ok n ≡ chunks_read src start x → (x ≡ whole n.part n.next) × (n.count ≡ length (joined_from src.bytes start))
+    go (whole v to) e =
+        let q : n ≡ record { part = v; count = length (joined_from src.bytes start); next = to } = cc in
+        (rw q, rw q)
+    go (refused m) e = clash (cc)
 
-pub chunks-is-not : (src : Source) (start : Place) (x : Read Part) {r : ChunksRead} {m : ℕ} → r ≡ chunks_read src start x → r ≡ chunks.Refused m → x ≡ refused m
-chunks-is-not src start (whole v to) e f = clash (cc)
-chunks-is-not src start (refused n) e f = cc
+pub chunks-is-not : (src : Source) (start : Place) (x : Read Part) {r : Result ChunksAt Refusal} {m : Refusal} → numbered r ≡ chunks_read src start x → r ≡ Err m
+    → x ≡ refused (number m)
+chunks-is-not src start x {m = m} e f = go x (rw f at e)
+  where
+    go : (x : Read Part) → Err (number m) ≡ chunks_read src start x → x ≡ refused (number m)
+    go (whole v to) e = clash (cc)
+    go (refused n) e = cc
 
 -- ---- a chunk that was read lies in the packet
 
@@ -159,51 +172,51 @@ pub chunking-begins : (l : List ℕ) (f : Frame) (text known : Bool) (start tota
 chunking-begins l f text known start total =
     record { from = omega arith; most = omega arith; same = same_self (source_from l f) start; is = refl; counted = omega arith }
 
-module _ {l : List ℕ} {f here : Frame} {text known : Bool} {start total at left count : ℕ} (c : Chunking l f here text known start total at left count) {r : ChunkRead}
-    (e : r ≡ chunk_read (chunk_at text known (source_from l here) left at)) where
+module _ {l : List ℕ} {f here : Frame} {text known : Bool} {start total at left count : ℕ} (c : Chunking l f here text known start total at left count) where
   -- the chunk is that of the first frame's source
   same-chunk : chunk_at text known (source_from l f) left at ≡ chunk_at text known (source_from l here) left at
   same-chunk = agree-is (chunk-agree text known left at c.same)
 
-  pub chunking-breaks : {n : ℕ} → r ≡ chunk.Refused n → chunks.Refused n ≡ chunks_read (source_from l f) start (chunks_from l f text known start total start)
-  chunking-breaks q =
-      sym (ap (chunks_read (source_from l f) start) (c.is ∙ breaks text known (source_from l f) start left at _ (same-chunk ∙ chunk-is-not _ e q)))
+  module _ {r : Result Chunk Refusal} (e : numbered r ≡ chunk_read (chunk_at text known (source_from l here) left at)) where
+    pub chunking-breaks : {m : Refusal} → r ≡ Err m → Err (number m) ≡ chunks_read (source_from l f) start (chunks_from l f text known start total start)
+    chunking-breaks q =
+        sym (ap (chunks_read (source_from l f) start) (c.is ∙ breaks text known (source_from l f) start left at _ (same-chunk ∙ chunk-is-not _ e q)))
 
-  pub chunking-ends : {to : ℕ} → r ≡ chunk.Last to
-      → chunks.Whole (record { part = part_to start to; count = count; next = to }) ≡ chunks_read (source_from l f) start (chunks_from l f text known start total start)
-  chunking-ends {to} q =
-      let last = same-chunk ∙ last-is _ e q in
-      let all : count ≡ length (joined_from (source_from l f).bytes start) =
-      omega (arith, c.counted, ap length (joined_end (source_from l f).bytes at (chunk-says text known (source_from l f) left at _ _ last).0)) in
-      rw all (sym (ap (chunks_read (source_from l f) start) (c.is ∙ ends text known (source_from l f) start left at _ last)))
+    pub chunking-ends : {to : ℕ} → r ≡ Ok (chunk.Last to)
+        → Ok (record { part = part_to start to; count = count; next = to }) ≡ chunks_read (source_from l f) start (chunks_from l f text known start total start)
+    chunking-ends {to} q =
+        let last = same-chunk ∙ last-is _ e q in
+        let all : count ≡ length (joined_from (source_from l f).bytes start) =
+        omega (arith, c.counted, ap length (joined_end (source_from l f).bytes at (chunk-says text known (source_from l f) left at _ _ last).0)) in
+        rw all (sym (ap (chunks_read (source_from l f) start) (c.is ∙ ends text known (source_from l f) start left at _ last)))
 
-  pub chunking-last : {to : ℕ} → r ≡ chunk.Last to → start ≤ to
-  chunking-last q = let h = c.from in omega (arith, (chunk-fits text known (source_from l f) left at _ _ (same-chunk ∙ last-is _ e q)).0)
+    pub chunking-last : {to : ℕ} → r ≡ Ok (chunk.Last to) → start ≤ to
+    chunking-last q = let h = c.from in omega (arith, (chunk-fits text known (source_from l f) left at _ _ (same-chunk ∙ last-is _ e q)).0)
 
-  pub chunking-says : {n to : ℕ} → r ≡ chunk.More n to
-      → (le_at 4 (drop at (source_from l f).bytes) ≡ n) × (at + 4 + n ≡ to) × (to ≤ length (source_from l f).bytes)
-  chunking-says q = chunk-says text known (source_from l f) left at _ _ (same-chunk ∙ (more-is _ e q).0)
+    pub chunking-says : {n to : ℕ} → r ≡ Ok (chunk.More n to)
+        → (le_at 4 (drop at (source_from l f).bytes) ≡ n) × (at + 4 + n ≡ to) × (to ≤ length (source_from l f).bytes)
+    chunking-says q = chunk-says text known (source_from l f) left at _ _ (same-chunk ∙ (more-is _ e q).0)
 
-  -- a chunk's bytes are counted
-  one-counted : {n to : ℕ} → r ≡ chunk.More n to → length (joined_from (source_from l f).bytes at) ≡ n + length (joined_from (source_from l f).bytes to)
-  one-counted {n} {to} q =
-      let bytes = (source_from l f).bytes in
-      let s = chunking-says q in
-      let piece = take n (drop (at + 4) bytes) in
-      let long : length piece ≡ n = length-take-le n (drop (at + 4) bytes) (omega (arith, s.1, s.2, length-drop (at + 4) bytes)) in
-      let turned : joined_from bytes at ≡ piece ++ joined_from bytes to = joined-turn bytes at s.0 (more-is (chunk_at text known (source_from l here) left at) e q).1 ∙ rw s.1 in
-      ap length turned ∙ length-append piece (joined_from bytes to) ∙ rw long
+    -- a chunk's bytes are counted
+    one-counted : {n to : ℕ} → r ≡ Ok (chunk.More n to) → length (joined_from (source_from l f).bytes at) ≡ n + length (joined_from (source_from l f).bytes to)
+    one-counted {n} {to} q =
+        let bytes = (source_from l f).bytes in
+        let s = chunking-says q in
+        let piece = take n (drop (at + 4) bytes) in
+        let long : length piece ≡ n = length-take-le n (drop (at + 4) bytes) (omega (arith, s.1, s.2, length-drop (at + 4) bytes)) in
+        let turned : joined_from bytes at ≡ piece ++ joined_from bytes to = joined-turn bytes at s.0 (more-is (chunk_at text known (source_from l here) left at) e q).1 ∙ rw s.1 in
+        ap length turned ∙ length-append piece (joined_from bytes to) ∙ rw long
 
-  pub chunking-on : {n to rest sum : ℕ} {next : Frame} → r ≡ chunk.More n to → rest ≡ left - n → sum ≡ count + n → next ≡ frame_at l here to
-      → Chunking l f next text known start total to rest sum
-  chunking-on {n} {to} q b d g =
-      let m = more-is (chunk_at text known (source_from l here) left at) e q in
-      let h = chunking-says q in
-      let k = c.from in
-      record {
-        from = omega (arith, h.1);
-        most = omega (arith, h.1, c.most);
-        same = rw g (same_then (same-later at (omega (arith, h.1)) c.same) (frame_same l here to));
-        is = c.is ∙ goes_on_lem text known (source_from l f) start left at n to (same-chunk ∙ m.0, m.1) ∙ rw b;
-        counted = omega (arith, c.counted, one-counted q);
-      }
+    pub chunking-on : {n to rest sum : ℕ} {next : Frame} → r ≡ Ok (chunk.More n to) → rest ≡ left - n → sum ≡ count + n → next ≡ frame_at l here to
+        → Chunking l f next text known start total to rest sum
+    chunking-on {n} {to} q b d g =
+        let m = more-is (chunk_at text known (source_from l here) left at) e q in
+        let h = chunking-says q in
+        let k = c.from in
+        record {
+          from = omega (arith, h.1);
+          most = omega (arith, h.1, c.most);
+          same = rw g (same_then (same-later at (omega (arith, h.1)) c.same) (frame_same l here to));
+          is = c.is ∙ goes_on_lem text known (source_from l f) start left at n to (same-chunk ∙ m.0, m.1) ∙ rw b;
+          counted = omega (arith, c.counted, one-counted q);
+        }

@@ -3,6 +3,7 @@
 #![tactic(auto)]
 
 ghost use Rattle.std.specs.Prelude.{◌≡◌, true, not, ◌&&◌, ◌||◌, suc, ◌+◌, ◌<◌, ◌≤◌, ◌^◌, leb, length};
+ghost use Rattle.refusals.specs.Refused.{numbered};
 ghost use Rattle.wire.specs.Even.{even};
 ghost use Rattle.token.specs.Types.{length_width};
 ghost use Rattle.token.specs.Tokens.{signed};
@@ -14,8 +15,8 @@ ghost use Rattle.cells.specs.Answers.{type_read, cell_read, chunks_read};
 ghost use Rattle.cells.specs.Code.{chunk_read, sign_of};
 
 use payload::frames::{Frame, frame_at};
-use payload::{NumberRead, PartRead, minus, part_at, u8_at, u16_at, u32_at, u64_at};
-use refusals::INNER_WRONG;
+use payload::{NumberAt, part_at, u8_at, u16_at, u32_at, u64_at};
+use refusals::Refusal;
 use wire::Part;
 
 // A cell's value, by case. A Max part runs from the first chunk length through the zero one.
@@ -60,46 +61,29 @@ pub struct TypeAt {
     pub next: usize,
 }
 
-#[derive(Clone, Copy)]
-pub enum TypeRead {
-    Whole(TypeAt),
-    Refused(u8),
-}
-
 // TYPE_INFO: the code, the length, the collation.
-pub fn type_at(lent: &[u8], frame: Frame, at: usize) -> TypeRead
-    ensures { result ≡ type_read (type_at (source_from lent.now frame) at) }
+pub fn type_at(lent: &[u8], frame: Frame, at: usize) -> Result<TypeAt, Refusal>
+    ensures { numbered result ≡ type_read (type_at (source_from lent.now frame) at) }
 {
-    let code = match u8_at(lent, frame, at) {
-        NumberRead::Refused(n) => return TypeRead::Refused(n),
-        NumberRead::Whole(n) => n,
-    };
+    let code = u8_at(lent, frame, at)?;
     let byte = code.value as u8;
     if !is_code(byte) {
-        return TypeRead::Refused(INNER_WRONG);
+        return Err(Refusal::InnerWrong);
     }
-    let limit = match length_at(lent, frame, code.next, byte) {
-        NumberRead::Refused(n) => return TypeRead::Refused(n),
-        NumberRead::Whole(n) => n,
-    };
+    let limit = length_at(lent, frame, code.next, byte)?;
     let most = limit.value as u16;
     if !is_type(byte, most) {
-        return TypeRead::Refused(INNER_WRONG);
+        return Err(Refusal::InnerWrong);
     }
-    match part_at(lent, frame, limit.next, token::collation_size(byte)) {
-        PartRead::Refused(n) => TypeRead::Refused(n),
-        PartRead::Whole(read) => {
-            let collation = read.part;
-            TypeRead::Whole(TypeAt {
-                info: TypeInfo {
-                    code: byte,
-                    limit: most,
-                    collation,
-                },
-                next: read.next,
-            })
+    let collation = part_at(lent, frame, limit.next, token::collation_size(byte))?;
+    Ok(TypeAt {
+        info: TypeInfo {
+            code: byte,
+            limit: most,
+            collation: collation.part,
         },
-    }
+        next: collation.next,
+    })
 }
 
 fn is_code(code: u8) -> bool
@@ -121,8 +105,8 @@ pub fn is_type(code: u8, limit: u16) -> bool
 }
 
 // A type's length, which stands in one byte or in two.
-fn length_at(lent: &[u8], frame: Frame, at: usize, code: u8) -> NumberRead
-    ensures { (result ≡ number_read (number_at (length_width code) (source_from lent.now frame) at whole)) × Below 2 result }
+fn length_at(lent: &[u8], frame: Frame, at: usize, code: u8) -> Result<NumberAt, Refusal>
+    ensures { (numbered result ≡ number_read (number_at (length_width code) (source_from lent.now frame) at whole)) × Below 2 result }
 {
     if token::length_width(code) == 1 {
         u8_at(lent, frame, at)
@@ -133,63 +117,72 @@ fn length_at(lent: &[u8], frame: Frame, at: usize, code: u8) -> NumberRead
 
 // A cell's value, with the place after it.
 #[derive(Clone, Copy)]
-pub enum CellRead {
-    Whole(Value, usize),
-    Refused(u8),
+pub struct CellAt {
+    pub value: Value,
+    pub next: usize,
 }
 
 // A cell of a column of some code and length: 26 where there is no such type. The test stands in each branch, where it is
 // cheapest.
-pub fn cell_at(lent: &[u8], frame: Frame, at: usize, code: u8, limit: u16) -> CellRead
-    ensures { result ≡ cell_read (cell_at code limit (source_from lent.now frame) at) }
+pub fn cell_at(
+    lent: &[u8],
+    frame: Frame,
+    at: usize,
+    code: u8,
+    limit: u16,
+) -> Result<CellAt, Refusal>
+    ensures { numbered result ≡ cell_read (cell_at code limit (source_from lent.now frame) at) }
 {
     if code == INTN {
         if !is_type(INTN, limit) {
-            return CellRead::Refused(INNER_WRONG);
+            return Err(Refusal::InnerWrong);
         }
         return integer_at(lent, frame, at, limit);
     }
     if limit == MAX {
         if !is_type(code, MAX) {
-            return CellRead::Refused(INNER_WRONG);
+            return Err(Refusal::InnerWrong);
         }
         return max_at(lent, frame, at, code == NVARCHAR);
     }
     if !is_type(code, limit) {
-        return CellRead::Refused(INNER_WRONG);
+        return Err(Refusal::InnerWrong);
     }
     bounded_at(lent, frame, at, limit)
 }
 
 // A cell of an integer column of some length: a length that is 0, which is null, or the column's, and the number.
-fn integer_at(lent: &[u8], frame: Frame, at: usize, limit: u16) -> CellRead
+fn integer_at(lent: &[u8], frame: Frame, at: usize, limit: u16) -> Result<CellAt, Refusal>
     requires { is_type 0x26 limit ≡ true }
-    ensures { result ≡ cell_read (integer_at limit (source_from lent.now frame) at) }
+    ensures { numbered result ≡ cell_read (integer_at limit (source_from lent.now frame) at) }
 {
-    let size = match u8_at(lent, frame, at) {
-        NumberRead::Refused(n) => return CellRead::Refused(n),
-        NumberRead::Whole(n) => n,
-    };
+    let size = u8_at(lent, frame, at)?;
     if size.value == 0 {
-        return CellRead::Whole(Value::Null, size.next);
+        return Ok(CellAt {
+            value: Value::Null,
+            next: size.next,
+        });
     }
     if size.value != limit as u64 {
-        return CellRead::Refused(INNER_WRONG);
+        return Err(Refusal::InnerWrong);
     }
     let width = size.value as usize;
-    match integer_number_at(lent, frame, size.next, width) {
-        NumberRead::Refused(n) => CellRead::Refused(n),
-        NumberRead::Whole(n) => CellRead::Whole(
-            Value::Number(signed_number(width, n.value)),
-            n.next,
-        ),
-    }
+    let number = integer_number_at(lent, frame, size.next, width)?;
+    Ok(CellAt {
+        value: Value::Number(signed_number(width, number.value)),
+        next: number.next,
+    })
 }
 
 // The number of an integer column's width at a place.
-fn integer_number_at(lent: &[u8], frame: Frame, at: usize, width: usize) -> NumberRead
+fn integer_number_at(
+    lent: &[u8],
+    frame: Frame,
+    at: usize,
+    width: usize,
+) -> Result<NumberAt, Refusal>
     requires { is_type 0x26 width ≡ true }
-    ensures { (result ≡ number_read (number_at width (source_from lent.now frame) at whole)) × Below width result }
+    ensures { (numbered result ≡ number_read (number_at width (source_from lent.now frame) at whole)) × Below width result }
 {
     match width {
         1 => u8_at(lent, frame, at),
@@ -225,26 +218,24 @@ fn with_sign(n: u64, half: u64) -> i64
 }
 
 // A cell of a bounded text column of some length: null, or a text of an even length within it.
-fn bounded_at(lent: &[u8], frame: Frame, at: usize, limit: u16) -> CellRead
-    ensures { result ≡ cell_read (bounded_at limit (source_from lent.now frame) at) }
+fn bounded_at(lent: &[u8], frame: Frame, at: usize, limit: u16) -> Result<CellAt, Refusal>
+    ensures { numbered result ≡ cell_read (bounded_at limit (source_from lent.now frame) at) }
 {
-    let size = match u16_at(lent, frame, at) {
-        NumberRead::Refused(n) => return CellRead::Refused(n),
-        NumberRead::Whole(n) => n,
-    };
+    let size = u16_at(lent, frame, at)?;
     if size.value == NULL_LENGTH {
-        return CellRead::Whole(Value::Null, size.next);
+        return Ok(CellAt {
+            value: Value::Null,
+            next: size.next,
+        });
     }
     if !is_within(size.value, limit as u64) {
-        return CellRead::Refused(INNER_WRONG);
+        return Err(Refusal::InnerWrong);
     }
-    match part_at(lent, frame, size.next, size.value as usize) {
-        PartRead::Refused(n) => CellRead::Refused(n),
-        PartRead::Whole(text) => {
-            let part = text.part;
-            CellRead::Whole(Value::Part(part), text.next)
-        },
-    }
+    let text = part_at(lent, frame, size.next, size.value as usize)?;
+    Ok(CellAt {
+        value: Value::Part(text.part),
+        next: text.next,
+    })
 }
 
 // Whether a text of n bytes goes with a column of some length.
@@ -255,33 +246,25 @@ fn is_within(n: u64, limit: u64) -> bool
 }
 
 // A Max cell: null, or a total that is known or not, and chunks.
-fn max_at(lent: &[u8], frame: Frame, at: usize, text: bool) -> CellRead
-    ensures { result ≡ cell_read (max_at text (source_from lent.now frame) at) }
+fn max_at(lent: &[u8], frame: Frame, at: usize, text: bool) -> Result<CellAt, Refusal>
+    ensures { numbered result ≡ cell_read (max_at text (source_from lent.now frame) at) }
 {
-    let total = match u64_at(lent, frame, at) {
-        NumberRead::Refused(n) => return CellRead::Refused(n),
-        NumberRead::Whole(n) => n,
-    };
+    let total = u64_at(lent, frame, at)?;
     if total.value == NULL_TOTAL {
-        return CellRead::Whole(Value::Null, total.next);
+        return Ok(CellAt {
+            value: Value::Null,
+            next: total.next,
+        });
     }
     if !goes_with(total.value, text) {
-        return CellRead::Refused(INNER_WRONG);
+        return Err(Refusal::InnerWrong);
     }
-    match chunks_at(
-        lent,
-        frame,
-        total.next,
-        text,
-        total.value != UNKNOWN_TOTAL,
-        total.value as usize,
-    ) {
-        ChunksRead::Refused(n) => CellRead::Refused(n),
-        ChunksRead::Whole(read) => {
-            let part = read.part;
-            CellRead::Whole(Value::Max(part), read.next)
-        },
-    }
+    let known = total.value != UNKNOWN_TOTAL;
+    let chunks = chunks_at(lent, frame, total.next, text, known, total.value as usize)?;
+    Ok(CellAt {
+        value: Value::Max(chunks.part),
+        next: chunks.next,
+    })
 }
 
 // Whether n bytes can be those of a text, where they are: they are even.
@@ -300,12 +283,6 @@ pub struct ChunksAt {
     pub next: usize,
 }
 
-#[derive(Clone, Copy)]
-pub enum ChunksRead {
-    Whole(ChunksAt),
-    Refused(u8),
-}
-
 // The chunks of a Max value from a place on, up to a zero length, where they have a total that is known or not. Each is read from
 // the packet in which the one before it ended, so that no header is passed for every chunk.
 pub fn chunks_at(
@@ -315,20 +292,17 @@ pub fn chunks_at(
     text: bool,
     known: bool,
     total: usize,
-) -> ChunksRead
-    ensures { result ≡ chunks_read (source_from lent.now frame) start (chunks_at (suc (length (source_from lent.now frame).bytes)) text known (source_from lent.now frame) start total start) }
+) -> Result<ChunksAt, Refusal>
+    ensures { numbered result ≡ chunks_read (source_from lent.now frame) start (chunks_at (suc (length (source_from lent.now frame).bytes)) text known (source_from lent.now frame) start total start) }
 {
     let mut here = frame;
     let mut at = start;
     let mut left = total;
     let mut count = 0;
     loop {
-        match chunk_at(lent, here, at, text, known, left) {
-            ChunkRead::Refused(n) => {
-                return ChunksRead::Refused(n);
-            },
-            ChunkRead::Last(next) => {
-                return ChunksRead::Whole(ChunksAt {
+        match chunk_at(lent, here, at, text, known, left)? {
+            Chunk::Last(next) => {
+                return Ok(ChunksAt {
                     part: Part {
                         start,
                         len: next - start,
@@ -337,8 +311,8 @@ pub fn chunks_at(
                     next,
                 });
             },
-            ChunkRead::More { len, next } => {
-                left = minus(left, len);
+            Chunk::More { len, next } => {
+                left = left.saturating_sub(len);
                 count += len;
                 here = frame_at(lent, here, next);
                 at = next;
@@ -349,37 +323,38 @@ pub fn chunks_at(
 
 // What a chunk can be: one of len bytes, or the zero length that ends the chunks; with the place after it.
 #[derive(Clone, Copy)]
-enum ChunkRead {
+enum Chunk {
     More { len: usize, next: usize },
     Last(usize),
-    Refused(u8),
 }
 
 // The chunk at a place, where left bytes of a total that is known or not are to come.
-fn chunk_at(lent: &[u8], frame: Frame, at: usize, text: bool, known: bool, left: usize) -> ChunkRead
-    ensures { result ≡ chunk_read (chunk_at text known (source_from lent.now frame) left at) }
+fn chunk_at(
+    lent: &[u8],
+    frame: Frame,
+    at: usize,
+    text: bool,
+    known: bool,
+    left: usize,
+) -> Result<Chunk, Refusal>
+    ensures { numbered result ≡ chunk_read (chunk_at text known (source_from lent.now frame) left at) }
 {
-    let size = match u32_at(lent, frame, at) {
-        NumberRead::Refused(n) => return ChunkRead::Refused(n),
-        NumberRead::Whole(n) => n,
-    };
+    let size = u32_at(lent, frame, at)?;
     let len = size.value as usize;
     if len == 0 {
         if !is_last(known, left) {
-            return ChunkRead::Refused(INNER_WRONG);
+            return Err(Refusal::InnerWrong);
         }
-        return ChunkRead::Last(size.next);
+        return Ok(Chunk::Last(size.next));
     }
     if !is_chunk(text, known, left, len) {
-        return ChunkRead::Refused(INNER_WRONG);
+        return Err(Refusal::InnerWrong);
     }
-    match part_at(lent, frame, size.next, len) {
-        PartRead::Refused(n) => ChunkRead::Refused(n),
-        PartRead::Whole(chunk) => ChunkRead::More {
-            len,
-            next: chunk.next,
-        },
-    }
+    let chunk = part_at(lent, frame, size.next, len)?;
+    Ok(Chunk::More {
+        len,
+        next: chunk.next,
+    })
 }
 
 // Whether a chunk of n bytes can stand where left bytes are to come, and whether the last can.

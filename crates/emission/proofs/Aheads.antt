@@ -16,20 +16,19 @@ use Rattle.script.specs.declared.Found.TheVariants.{Record, Cut, End}
 use Rattle.script.specs.Records.{Item, records, record_at}
 use Rattle.wire.proofs.Cases.{by-test}
 use Rattle.script.proofs.Walk.{is-end, lies, turn, cuts, ends}
-use Rattle.emission.specs.declared.Run.{Run}
 use Rattle.script.specs.Runs.{ahead}
 use Rattle.script.proofs.Runs.{past_run}
-use Rattle.emission.specs.Runs.{capped, record_size, record_fault, run_size, run_fault, run_of}
+use Rattle.emission.specs.Runs.{capped, record_size, record_fault, NumberedRun, run_size, run_fault, run_of}
 use Rattle.emission.specs.Inner.{longer_run}
 use Rattle.emission.proofs.Sizes.{cap-left, cap-three, cap-small, cap-of, first-of-three}
 
 module _ (s : List ℕ) (at k : ℕ) where
   -- the records that the loop still has before it
-  abbrev pub rest : Run → List Item
+  abbrev pub rest : NumberedRun → List Item
   rest r = records (drop r.next s)
 
   -- with those that it still has before it, what the loop has gathered is what there is
-  pub record Reached (r : Run) : Type 0 where
+  pub record Reached (r : NumberedRun) : Type 0 where
     pub next : r.next ≡ at + 6 * r.count + r.bytes
     pub count : r.count + length (ahead k (rest r)) ≡ length (ahead k (records (drop at s)))
     pub bytes : r.bytes + length (joined (ahead k (rest r))) ≡ length (joined (ahead k (records (drop at s))))
@@ -48,7 +47,7 @@ module _ (s : List ℕ) (at k : ℕ) where
   }
 
   -- one record more
-  module _ (r : Run) (st n : ℕ) (e : record_at s r.next ≡ Record k st n) where
+  module _ (r : NumberedRun) (st n : ℕ) (e : record_at s r.next ≡ Record k st n) where
     abbrev p : List ℕ
     p = take n (drop st s)
 
@@ -94,7 +93,7 @@ module _ (s : List ℕ) (at k : ℕ) where
         })
 
   -- no record more
-  module _ (r : Run) (e : ahead k (rest r) ≡ []) where
+  module _ (r : NumberedRun) (e : ahead k (rest r) ≡ []) where
     none-size : run_size k (ahead k (rest r)) ≡ 0
     unfolding run_size
     none-size = ap (run_size k) e

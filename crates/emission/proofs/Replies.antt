@@ -16,8 +16,10 @@ use Rattle.script.specs.Records.{Item, records, record_at}
 use Rattle.script.specs.Verdict.{verdict_of}
 use Rattle.script.proofs.Walk.{turn, cuts, ends}
 use Rattle.emission.specs.declared.Turn.{Turn}
-use Rattle.emission.specs.declared.Sized.{Sized}
-use Rattle.emission.specs.declared.Measure.TheVariants.{Size, Refused}
+use Rattle.std.specs.Prelude.{Result, Ok, Err}
+use Rattle.refusals.specs.declared.Refusal.{Refusal}
+use Rattle.refusals.specs.Refused.{number, numbered}
+use Rattle.refusals.proofs.Numbers.{number-not-0}
 use Rattle.emission.specs.Emission.{Piece, token_piece, error_token, done_token, pieces, bytes_in, reply_of, leading_status, terminal_status}
 use Rattle.emission.specs.Walk.{walked, lead_pieces, begin_pieces, sets_of, emit_from, error_in, walked_by}
 use Rattle.emission.specs.Refusal.{fault_in, refusal_of}
@@ -29,31 +31,32 @@ use Rattle.emission.proofs.Sizes.{size-told, size-nothing, size-cat, fault-cat, 
 
 -- ---- one part after another
 
-sizes-bad : (ps qs : List Piece) (before f z : ℕ) → f ≡ fault_in ps → (f ≡ 0 → ⊥) → Sizes (ps ++ qs) before (record { fault = f; size = z })
-sizes-bad ps qs before f z e n = record {
-  fault = sym (fault-cat ps qs ∙ rw (← e, ne_eqb _ _ n));
-  size = λ h. absurd (n h);
+sizes-bad : (ps qs : List Piece) (before : ℕ) (r : Refusal) → number r ≡ fault_in ps → Sizes (ps ++ qs) before (Err r)
+sizes-bad ps qs before r e = record {
+  fault = sym (fault-cat ps qs ∙ rw (← e, ne_eqb _ _ (number-not-0 r)));
+  size = tt;
 }
 
-sizes-then : (ps qs : List Piece) (before z : ℕ) (r : Sized) → fault_in ps ≡ 0 → z ≡ capped (length (bytes_in ps)) → Sizes qs (capped (before + z)) r → Sizes (ps ++ qs) before r
-sizes-then ps qs before z r f e h = record {
+sizes-then : (ps qs : List Piece) (before z : ℕ) (r : Result ℕ Refusal) → fault_in ps ≡ 0 → z ≡ capped (length (bytes_in ps)) → Sizes qs (capped (before + z)) r → Sizes (ps ++ qs) before r
+sizes-then ps qs before z (Err r) f e h = record { fault = h.fault ∙ sym (fault-cat ps qs ∙ rw f); size = tt }
+sizes-then ps qs before z (Ok n) f e h = record {
   fault = h.fault ∙ sym (fault-cat ps qs ∙ rw f);
-  size = λ w.
-      h.size w ∙ cap-left (before + z) (length (bytes_in qs)) ∙ ap (λ (m : ℕ). capped (before + m + length (bytes_in qs))) e
+  size =
+      h.size ∙ cap-left (before + z) (length (bytes_in qs)) ∙ ap (λ (m : ℕ). capped (before + m + length (bytes_in qs))) e
       ∙ cap-three before (length (bytes_in ps)) (length (bytes_in qs)) ∙ cap-same (omega (arith, size-cat ps qs));
 }
 
 -- a set's beginning, and what follows it
-module _ (s class : List ℕ) (next before : ℕ) (t : Turn) (h : Turned (begin_pieces class (records (drop next s))) s next t) where
+module _ (s class : List ℕ) (next before : ℕ) where
   abbrev begins : List Piece
   begins = begin_pieces class (records (drop next s))
 
-  pub sets-bad : (t.fault ≡ 0 → ⊥) → Sizes (begins ++ emit_from 0 (records (drop next s))) before (record { fault = t.fault; size = before })
-  sets-bad n = sizes-bad begins (emit_from 0 (records (drop next s))) before t.fault before h.fault n
+  pub sets-bad : (r : Refusal) → Turned begins s next (Err r) → Sizes (begins ++ emit_from 0 (records (drop next s))) before (Err r)
+  sets-bad r h = sizes-bad begins (emit_from 0 (records (drop next s))) before r h.fault
 
-  pub sets_then : (r : Sized) → t.fault ≡ 0 → Sizes (emit_from 0 (records (drop t.next s))) (capped (before + t.size)) r
+  pub sets_then : (t : Turn) → Turned begins s next (Ok t) → (r : Result ℕ Refusal) → Sizes (emit_from 0 (records (drop t.next s))) (capped (before + t.size)) r
       → Sizes (begins ++ emit_from 0 (records (drop next s))) before r
-  sets_then r z v = sizes-then begins (emit_from 0 (records (drop next s))) before t.size r (sym h.fault ∙ z) h.size (rw (h.goes.same 0) v)
+  sets_then t h r v = sizes-then begins (emit_from 0 (records (drop next s))) before t.size r (sym h.fault) h.turn.size (rw (h.turn.goes.same 0) v)
 
 -- ---- errors
 
@@ -67,23 +70,23 @@ size-error status p =
     omega (arith, size-told (error_token p) (token_piece (done_token status 0) ∷ []), size-told (done_token status 0) [], size-nothing, size-done status 0xC1 0, size-message 0xAA (le_at 4 p) 1 (le_at 1 (drop 4 p)) (drop 5 p) [] [] 1)
 
 -- a reply of an error alone
-pub sizes-terminal : (class : List ℕ) (rs : List Item) (e : List ℕ) → error_in 8 rs ≡ some e → Sizes (sets_of class rs) 8 (record { fault = 0; size = capped (8 + capped (30 + length (drop 5 e))) })
+pub sizes-terminal : (class : List ℕ) (rs : List Item) (e : List ℕ) → error_in 8 rs ≡ some e → Sizes (sets_of class rs) 8 (Ok (capped (8 + capped (30 + length (drop 5 e)))))
 sizes-terminal class rs e h =
     rw h
     (record {
       fault = sym (no-fault terminal_status (some e));
-      size = λ z. cap-right 8 (30 + length (drop 5 e)) ∙ cap-same (omega (arith, size-error terminal_status e));
+      size = cap-right 8 (30 + length (drop 5 e)) ∙ cap-same (omega (arith, size-error terminal_status e));
     })
 
 -- a reply of sets, after an error where there is one
-pub sizes-sets : (class : List ℕ) (rs : List Item) (lead : ℕ) (r : Sized) → error_in 8 rs ≡ none → lead ≡ capped (length (bytes_in (lead_pieces leading_status (error_in 7 rs))))
+pub sizes-sets : (class : List ℕ) (rs : List Item) (lead : ℕ) (r : Result ℕ Refusal) → error_in 8 rs ≡ none → lead ≡ capped (length (bytes_in (lead_pieces leading_status (error_in 7 rs))))
     → Sizes (begin_pieces class rs ++ emit_from 0 rs) (capped (8 + lead)) r → Sizes (sets_of class rs) 8 r
 sizes-sets class rs lead r h e v = rw h (sizes-then (lead_pieces leading_status (error_in 7 rs)) (begin_pieces class rs ++ emit_from 0 rs) 8 lead r (no-fault leading_status (error_in 7 rs)) e v)
 
 -- ---- a script
 
 module _ (s : List ℕ) where
-  pub sizes-first : (k st n : ℕ) (r : Sized) → record_at s 0 ≡ Record k st n → Sizes (sets_of (take (st + n - st) (drop st s)) (records (drop (st + n) s))) 8 r → Sizes (walked s) 8 r
+  pub sizes-first : (k st n : ℕ) (r : Result ℕ Refusal) → record_at s 0 ≡ Record k st n → Sizes (sets_of (take (st + n - st) (drop st s)) (records (drop (st + n) s))) 8 r → Sizes (walked s) 8 r
   unfolding walked walked_by
   sizes-first k st n r e v = rw (turn s 0 e) (rw (add-sub_cancel_left st n) at v)
 
@@ -91,9 +94,9 @@ module _ (s : List ℕ) where
   unfolding walked walked_by
   walked-first k st n e = rw (turn s 0 e, add-sub_cancel_left st n)
 
-  pub sizes-none : walked s ≡ [] → Sizes (walked s) 8 (record { fault = 0; size = 8 })
+  pub sizes-none : walked s ≡ [] → Sizes (walked s) 8 (Ok 8)
   unfolding fault_in
-  sizes-none e = rw e (record { fault = refl; size = λ z. sym (cap-of 8 (omega arith)) ∙ cap-same (omega (arith, size-nothing)) })
+  sizes-none e = rw e (record { fault = refl; size = sym (cap-of 8 (omega arith)) ∙ cap-same (omega (arith, size-nothing)) })
 
   pub walked-cut : record_at s 0 ≡ Cut → walked s ≡ []
   unfolding walked walked_by
@@ -120,23 +123,23 @@ module _ (s : List ℕ) where
   shorter e g = omega (arith, g, exact e g)
 
   -- the refusals in their order
-  module _ (v : ℕ) (e : v ≡ verdict_of s) where
-    pub measure-verdict : (v ≡ 0 → ⊥) → Refused v ≡ measure_of s
+  pub measure-verdict : (r : Refusal) → number r ≡ verdict_of s → numbered {A = ℕ} (Err r) ≡ measure_of s
+  unfolding measure_of refusal_of
+  measure-verdict r e = let n = number-not-0 r in rw (← e, ne_eqb _ _ n, ne_eqb _ _ n)
+
+  module _ (e : verdict_of s ≡ 0) where
+    h : {r : Result ℕ Refusal} → Sizes (walked s) 8 r → Sizes (pieces s) 8 r
+    h w = rw (by-sets s e) w
+
+    pub measure-fault : (r : Refusal) → Sizes (walked s) 8 (Err r) → numbered {A = ℕ} (Err r) ≡ measure_of s
     unfolding measure_of refusal_of
-    measure-verdict n = rw (← e, ne_eqb _ _ n, ne_eqb _ _ n)
+    measure-fault r w = let n = number-not-0 r in rw (e, ← (h w).fault, ne_eqb _ _ n, ne_eqb _ _ n)
 
-    module _ (z : v ≡ 0) (r : Sized) (w : Sizes (walked s) 8 r) where
-      h : Sizes (pieces s) 8 r
-      h = rw (by-sets s (sym e ∙ z)) w
-
-      pub measure-fault : (r.fault ≡ 0 → ⊥) → Refused r.fault ≡ measure_of s
+    module _ (n : ℕ) (w : Sizes (walked s) 8 (Ok n)) where
+      pub measure-long : 65535 < n → Err 17 ≡ measure_of s
       unfolding measure_of refusal_of
-      measure-fault n = rw (← e, z, ← h.fault, ne_eqb _ _ n, ne_eqb _ _ n)
+      measure-long g = rw (e, ← (h w).fault, lt-ltb 65535 (length (reply_of s)) (longer (h w).size g))
 
-      pub measure-long : r.fault ≡ 0 → 65535 < r.size → Refused 17 ≡ measure_of s
+      pub measure-size : n ≤ 65535 → Ok n ≡ measure_of s
       unfolding measure_of refusal_of
-      measure-long f g = rw (← e, z, ← h.fault, f, lt-ltb 65535 (length (reply_of s)) (longer (h.size f) g))
-
-      pub measure-size : r.fault ≡ 0 → r.size ≤ 65535 → Size r.size ≡ measure_of s
-      unfolding measure_of refusal_of
-      measure-size f g = rw (← e, z, ← h.fault, f, le-ltb 65535 (length (reply_of s)) (shorter (h.size f) g)) (ap Size (exact (h.size f) g))
+      measure-size g = rw (e, ← (h w).fault, le-ltb 65535 (length (reply_of s)) (shorter (h w).size g)) (ap Ok (exact (h w).size g))

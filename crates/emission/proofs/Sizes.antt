@@ -13,6 +13,12 @@ use Rattle.token.specs.Tokens.{Token, metadata, column, row, cell, EncodedCell, 
 use Rattle.token.specs.Names.{long_name, name_fault}
 use Rattle.wire.proofs.Cases.{by-test}
 use Rattle.refusals.specs.Numbers.{name_too_long}
+use Rattle.std.specs.Prelude.{Result, Ok, Err, ⊤}
+use Rattle.std.specs.Result.{result_and}
+use Rattle.refusals.specs.declared.Refusal.{Refusal}
+use Rattle.refusals.specs.Refused.{number, refused_by}
+use Rattle.refusals.proofs.Numbers.{number-not-0}
+use borrow.Author.Tests.{ne_eqb}
 use Rattle.token.proofs.Puts.{bytes-before}
 use Rattle.emission.specs.Emission.{Piece, token_piece, classification_piece, put_pieces, bytes_in}
 use Rattle.emission.specs.Refusal.{token_fault, piece_fault, fault_in}
@@ -56,10 +62,22 @@ pub first-of-three : (f a b : ℕ) → cond (eqb f 0) (cond (eqb a 0) b a) f ≡
 first-of-three zero a b = refl
 first-of-three (suc f) a b = rw (eqb-suc-zero f, eqb-suc-zero f)
 
+-- two refusals, one after the other
+pub first-refused : (a b : Result ⊤ Refusal) → refused_by (result_and a b) ≡ cond (eqb (refused_by a) 0) (refused_by b) (refused_by a)
+first-refused (Ok tt) b = refl
+first-refused (Err r) b = rw (ne_eqb (number r) 0 (number-not-0 r))
+
 -- the first fault of two names
 pub first-name : (a b : List ℕ) → cond (eqb (name_fault a) 0) (name_fault b) (name_fault a) ≡ cond (long_name a || long_name b) name_too_long 0
 unfolding name_fault
 first-name a b = by-test (long_name a) (λ e. rw e) (λ e. rw e)
+
+module _ (a b : List ℕ) where
+  pub name-bad : (r : Refusal) → number r ≡ name_fault a → number r ≡ cond (long_name a || long_name b) name_too_long 0
+  name-bad r e = e ∙ (rw (ne_eqb (name_fault a) 0 (λ z. number-not-0 r (e ∙ z))) at (first-name a b))
+
+  pub name-good : {f : ℕ} → 0 ≡ name_fault a → f ≡ name_fault b → f ≡ cond (long_name a || long_name b) name_too_long 0
+  name-good e g = g ∙ (rw (sym e) at (first-name a b))
 
 -- ---- tokens
 

@@ -13,9 +13,7 @@ use Rattle.wire.specs.Le.{le_at}
 use Rattle.token.specs.Types.{data_type_of}
 use Rattle.token.specs.Values.{column_value_of}
 use Rattle.token.specs.declared.SqlDataType.{SqlDataType}
-use Rattle.token.specs.declared.KnownDataType.{KnownDataType}
-use Rattle.token.specs.declared.KnownColumnValue.{KnownColumnValue}
-use Rattle.token.specs.declared.KnownColumnValue.TheVariants.{Known, Unknown}
+use Rattle.std.specs.Prelude.{Option, Some, None}
 use Rattle.token.specs.declared.ColumnValue.{ColumnValue}
 use Rattle.token.specs.Tokens.{cell, EncodedCell, long, token_bytes}
 use Rattle.emission.specs.Emission.{token_piece, value_cell, cell_of, cell_pieces, column_token, column_of, column_piece}
@@ -53,21 +51,21 @@ pub plain_cell : (s : List ℕ) (next : ℕ) {c d : EncodedCell} {n m : ℕ} →
 plain_cell s next {c} h e f z g = rw e (turned-one (cell c) s next _ (sym f) (g ∙ cap-same (sym z)) (goes-here s next h))
 
 -- what the value byte of a cell's record makes of it
-module _ (p : List ℕ) (cs : List (List ℕ)) {b : ℕ} {r : KnownColumnValue} (e : b ≡ le_at 1 p) (f : r ≡ column_value_of b) where
-  pub cell-known : {v : ColumnValue} → r ≡ Known v → cell_pieces p cs ≡ token_piece (cell (value_cell v (drop 1 p) cs)) ∷ []
+module _ (p : List ℕ) (cs : List (List ℕ)) {b : ℕ} {r : Option ColumnValue} (e : b ≡ le_at 1 p) (f : r ≡ column_value_of b) where
+  pub cell-known : {v : ColumnValue} → r ≡ Some v → cell_pieces p cs ≡ token_piece (cell (value_cell v (drop 1 p) cs)) ∷ []
   unfolding cell_of
   cell-known g = rw (← e, ← f, g)
 
-  pub cell-unknown : r ≡ Unknown → cell_pieces p cs ≡ []
+  pub cell-unknown : r ≡ None → cell_pieces p cs ≡ []
   unfolding cell_of
   cell-unknown g = rw (← e, ← f, g)
 
 -- and the type byte of a column's
-module _ (p : List ℕ) {b : ℕ} {r : KnownDataType} (e : b ≡ le_at 1 p) (f : r ≡ data_type_of b) where
-  pub column-known : {t : SqlDataType} → r ≡ KnownDataType.Known t → column_piece p ≡ token_piece (column_token t p) ∷ []
+module _ (p : List ℕ) {b : ℕ} {r : Option SqlDataType} (e : b ≡ le_at 1 p) (f : r ≡ data_type_of b) where
+  pub column-known : {t : SqlDataType} → r ≡ Some t → column_piece p ≡ token_piece (column_token t p) ∷ []
   unfolding column_of
   column-known g = rw (← e, ← f, g)
 
-  pub column-unknown : r ≡ KnownDataType.Unknown → column_piece p ≡ []
+  pub column-unknown : r ≡ None → column_piece p ≡ []
   unfolding column_of
   column-unknown g = rw (← e, ← f, g)

@@ -16,8 +16,12 @@ use Rattle.script.specs.declared.Found.TheVariants.{Record, Cut, End}
 use Rattle.script.specs.Records.{Item, item, cut, records, record_at}
 use Rattle.script.proofs.Walk.{lies, turn, cuts, ends}
 use Rattle.emission.specs.declared.Turn.{Turn}
-use Rattle.emission.specs.declared.ErrorAt.{ErrorAt}
-use Rattle.emission.specs.declared.ErrorAt.TheVariants.{At, Missing}
+use Rattle.std.specs.Prelude as std
+use Rattle.std.specs.Prelude.{Ok, Err, Some, None}
+use Rattle.wire.specs.declared.Part.{Part}
+use Rattle.refusals.specs.declared.Refusal.{Refusal}
+use Rattle.refusals.specs.Refused.{number}
+use Rattle.refusals.proofs.Numbers.{number-not-0}
 use Rattle.emission.specs.Emission.{Piece, token_piece, bytes_in, done_token, last_status, more_status}
 use Rattle.emission.specs.Walk.{pieces_of, rows_after, emit_from, error_in, begin_pieces}
 use Rattle.emission.specs.Refusal.{fault_in}
@@ -60,7 +64,7 @@ module _ (s : List ℕ) (at : ℕ) where
   abbrev pub left : List Piece
   left = emit_from 0 (records (drop at s))
 
-  module _ (k st n : ℕ) (t : Turn) (e : record_at s at ≡ Record k st n) (h : Turned (pieces_of 0 k (take (st + n - st) (drop st s)) (records (drop (st + n) s))) s (st + n) t) where
+  module _ (k st n : ℕ) (e : record_at s at ≡ Record k st n) where
     abbrev here : List Piece
     here = pieces_of 0 k (take n (drop st s)) (records (drop (st + n) s))
 
@@ -68,30 +72,38 @@ module _ (s : List ℕ) (at : ℕ) where
     unfolding emit_from
     left_is = rw (turn s at e)
 
-    t-fault : t.fault ≡ fault_in here
-    t-fault = rw (add-sub_cancel_left st n) at h.fault
+    -- what is emitted at the turn, with the payload as a slice
+    abbrev turn_pieces : List Piece
+    turn_pieces = pieces_of 0 k (take (st + n - st) (drop st s)) (records (drop (st + n) s))
 
-    t-size : t.size ≡ capped (length (bytes_in here))
-    t-size = rw (add-sub_cancel_left st n) at h.size
-
-    abbrev later : List Piece
-    later = emit_from 0 (records (drop t.next s))
+    turn_fault : fault_in turn_pieces ≡ fault_in here
+    turn_fault = rw (add-sub_cancel_left st n)
 
     -- a fault
-    pub left-bad : (t.fault ≡ 0 → ⊥) → fault_in left ≡ t.fault
-    left-bad f = ap fault_in left_is ∙ fault-cat here (emit_from (rows_after 0 k) (records (drop (st + n) s))) ∙ rw (← t-fault, ne_eqb _ _ f)
+    pub left-bad : (r : Refusal) → Turned turn_pieces s (st + n) (Err r) → fault_in left ≡ number r
+    left-bad r h =
+        let f : number r ≡ fault_in here = h.fault ∙ turn_fault in
+        ap fault_in left_is ∙ fault-cat here (emit_from (rows_after 0 k) (records (drop (st + n) s))) ∙ rw (← f, ne_eqb _ _ (number-not-0 r))
 
     -- none: what is left has the faults of what comes later, and the size of both
-    pub left-fault : t.fault ≡ 0 → fault_in left ≡ fault_in later
-    left-fault f =
-        ap fault_in left_is ∙ fault-cat here (emit_from (rows_after 0 k) (records (drop (st + n) s)))
-        ∙ rw (← t-fault, f) (rows-fault (rows_after 0 k) 0 (records (drop (st + n) s)) ∙ ap fault_in (h.goes.same 0))
+    module _ (t : Turn) (h : Turned turn_pieces s (st + n) (Ok t)) where
+      abbrev later : List Piece
+      later = emit_from 0 (records (drop t.next s))
 
-    pub left-size : (size : ℕ) → capped (capped (size + t.size) + length (bytes_in later)) ≡ capped (size + length (bytes_in left))
-    left-size size =
-        cap-left (size + t.size) (length (bytes_in later)) ∙ ap (λ (m : ℕ). capped (size + m + length (bytes_in later))) t-size
-        ∙ cap-three size (length (bytes_in here)) (length (bytes_in later))
-        ∙ cap-same (omega (arith, ap (λ (ps : List Piece). length (bytes_in ps)) left_is, size-cat here (emit_from (rows_after 0 k) (records (drop (st + n) s))), rows-size (rows_after 0 k) 0 (records (drop (st + n) s)), ap (λ (ps : List Piece). length (bytes_in ps)) (h.goes.same 0)))
+      t-size : t.size ≡ capped (length (bytes_in here))
+      t-size = rw (add-sub_cancel_left st n) at h.turn.size
+
+      pub left-fault : fault_in left ≡ fault_in later
+      left-fault =
+          let f : 0 ≡ fault_in here = h.fault ∙ turn_fault in
+          ap fault_in left_is ∙ fault-cat here (emit_from (rows_after 0 k) (records (drop (st + n) s)))
+          ∙ rw (← f) (rows-fault (rows_after 0 k) 0 (records (drop (st + n) s)) ∙ ap fault_in (h.turn.goes.same 0))
+
+      pub left-size : (size : ℕ) → capped (capped (size + t.size) + length (bytes_in later)) ≡ capped (size + length (bytes_in left))
+      left-size size =
+          cap-left (size + t.size) (length (bytes_in later)) ∙ ap (λ (m : ℕ). capped (size + m + length (bytes_in later))) t-size
+          ∙ cap-three size (length (bytes_in here)) (length (bytes_in later))
+          ∙ cap-same (omega (arith, ap (λ (ps : List Piece). length (bytes_in ps)) left_is, size-cat here (emit_from (rows_after 0 k) (records (drop (st + n) s))), rows-size (rows_after 0 k) 0 (records (drop (st + n) s)), ap (λ (ps : List Piece). length (bytes_in ps)) (h.turn.goes.same 0)))
 
   -- the end
   module _ (e : left ≡ token_piece (done_token last_status 0) ∷ []) where
@@ -114,7 +126,7 @@ module _ (s : List ℕ) (at : ℕ) where
 
 module _ (s : List ℕ) (k at : ℕ) where
   -- the place and the payload of the error of the set that goes on at a place
-  abbrev pub error_place : ErrorAt
+  abbrev pub error_place : std.Option Part
   error_place = error_at k at (records (drop at s))
 
   abbrev pub error_bytes : Option (List ℕ)
@@ -124,11 +136,11 @@ module _ (s : List ℕ) (k at : ℕ) where
     long : length (take n (drop st s)) ≡ n
     long = let place = lies s at e in length-take-le n (drop st s) (simp length-drop (omega arith))
 
-    pub error-here : j ≡ k → (error_place ≡ At (record { start = st; len = n })) × (error_bytes ≡ some (part_bytes s (record { start = st; len = n })))
+    pub error-here : j ≡ k → (error_place ≡ Some (record { start = st; len = n })) × (error_bytes ≡ some (part_bytes s (record { start = st; len = n })))
     unfolding error_at error_in part_bytes
     error-here h = (rw (turn s at e, eq-eqb _ _ h, long, ← (lies s at e).0), rw (turn s at e, eq-eqb _ _ h))
 
-    pub error-none : (j ≡ k → ⊥) → (eqb j 2 || eqb j 7) ≡ false → (error_place ≡ Missing) × (error_bytes ≡ none)
+    pub error-none : (j ≡ k → ⊥) → (eqb j 2 || eqb j 7) ≡ false → (error_place ≡ None) × (error_bytes ≡ none)
     unfolding error_at error_in
     error-none h f = (rw (turn s at e, ne_eqb _ _ h, f), rw (turn s at e, ne_eqb _ _ h, f))
 
@@ -137,10 +149,10 @@ module _ (s : List ℕ) (k at : ℕ) where
     unfolding error_at error_in
     error-later h f = (rw (turn s at e, ne_eqb _ _ h, f, long, ← (lies s at e).0), rw (turn s at e, ne_eqb _ _ h, f))
 
-  pub error-cut : record_at s at ≡ Cut → (error_place ≡ Missing) × (error_bytes ≡ none)
+  pub error-cut : record_at s at ≡ Cut → (error_place ≡ None) × (error_bytes ≡ none)
   unfolding error_at error_in
   error-cut e = (rw (cuts s at e), rw (cuts s at e))
 
-  pub error-end : record_at s at ≡ End → (error_place ≡ Missing) × (error_bytes ≡ none)
+  pub error-end : record_at s at ≡ End → (error_place ≡ None) × (error_bytes ≡ none)
   unfolding error_at error_in
   error-end e = (rw (ends s at e), rw (ends s at e))

@@ -1,7 +1,7 @@
 -- What a script emits (document 01, 'What a script emits', 'The reply packet'): the token list, set by set and row by row, and
 -- the reply's bytes. Rests on the shapes of script, the script's sets, the tokens of token and the packet of packet.
 -- docs/FORMATS.md, 'What is sent', has it in words.
-use Rattle.std.specs.Prelude.{ℕ, length, take, drop}
+use Rattle.std.specs.Prelude.{ℕ, length, take, drop, Option, Some, None}
 use mathlib.Core.List.{List, [], ◌∷◌, ◌++◌, map, flat_map}
 use Rattle.wire.specs.Le.{le_at}
 use Rattle.wire.specs.Fields.{Field, raw, flat}
@@ -11,9 +11,6 @@ use Rattle.script.specs.Shape.{message_text, server_name, procedure_name}
 use Rattle.token.specs.Types.{data_type_of, type_code, type_length, collation_size}
 use Rattle.token.specs.Values.{column_value_of}
 use Rattle.token.specs.declared.SqlDataType.{SqlDataType}
-use Rattle.token.specs.declared.KnownDataType.{KnownDataType}
-use Rattle.token.specs.declared.KnownDataType.TheVariants.{Known, Unknown}
-use Rattle.token.specs.declared.KnownColumnValue.{KnownColumnValue}
 use Rattle.token.specs.declared.ColumnValue.{ColumnValue}
 use Rattle.token.specs.declared.ColumnValue.TheVariants.{TinyInt, SmallInt, Int, BigInt, NVarChar, NVarCharMax, NVarCharMaxNull, VarCharMax, VarBinaryMax, Null}
 use Rattle.token.specs.Tokens.{Token, metadata, column, row, cell, done, EncodedCell, integer, no_integer, bounded, long, no_long, put}
@@ -27,9 +24,9 @@ abbrev pub column_token : SqlDataType → List ℕ → Token EncodedCell
 column_token t p = column 0 0 (type_code t) (type_length t) (take (collation_size (type_code t)) (drop 1 p)) (drop 6 p)
 
 -- the column of a record by its type byte; a byte that stands for no type, which no accepted script has, states none
-abbrev pub column_by : KnownDataType → List ℕ → List (Token EncodedCell)
-column_by (Known t) p = column_token t p ∷ []
-column_by Unknown p = []
+abbrev pub column_by : Option SqlDataType → List ℕ → List (Token EncodedCell)
+column_by (Some t) p = column_token t p ∷ []
+column_by None p = []
 
 unfoldable pub column_of : List ℕ → List (Token EncodedCell)
 column_of p = column_by (data_type_of (le_at 1 p)) p
@@ -75,9 +72,9 @@ value_cell VarBinaryMax x chunks = long chunks
 value_cell Null x chunks = no_integer
 
 -- the cell of a record by its value byte; a byte that stands for no value, which no accepted script has, states none
-abbrev pub cell_by : KnownColumnValue → List ℕ → List (List ℕ) → List EncodedCell
-cell_by (KnownColumnValue.Known v) x chunks = value_cell v x chunks ∷ []
-cell_by KnownColumnValue.Unknown x chunks = []
+abbrev pub cell_by : Option ColumnValue → List ℕ → List (List ℕ) → List EncodedCell
+cell_by (Some v) x chunks = value_cell v x chunks ∷ []
+cell_by None x chunks = []
 
 unfoldable pub cell_of : List ℕ → List (List ℕ) → List EncodedCell
 cell_of p chunks = cell_by (column_value_of (le_at 1 p)) (drop 1 p) chunks

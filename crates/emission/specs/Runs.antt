@@ -1,15 +1,16 @@
 -- What both passes ask of a script's records: those of one kind that stand next, with the faults and the size of what they emit, and
 -- a set's error. Rests on script's runs, Emission and Refusal.
-use Rattle.std.specs.Prelude.{ℕ, ◌+◌, ◌*◌, min, cond, ◌||◌, List, [], ◌∷◌, eqb, length, drop}
+use Rattle.std.specs.Prelude.{ℕ, ◌+◌, ◌*◌, min, cond, ◌||◌, List, [], ◌∷◌, eqb, length, drop, Some, None}
+use Rattle.std.specs.Prelude as std
 use Rattle.std.proofs.Math.Option.{Option, none, some}
 use Rattle.refusals.specs.Numbers.{empty_chunk}
+use Rattle.refusals.specs.Refused.{refused_by}
+use Rattle.wire.specs.declared.Part.{Part}
 use Rattle.wire.specs.Part.{part_bytes}
 use Rattle.token.specs.Tokens.{joined}
 use Rattle.script.specs.Records.{Item, item, cut, records}
 use Rattle.script.specs.Runs.{ahead}
 use Rattle.emission.specs.declared.Run.{Run}
-use Rattle.emission.specs.declared.ErrorAt.{ErrorAt}
-use Rattle.emission.specs.declared.ErrorAt.TheVariants.{At, Missing}
 use Rattle.emission.specs.Emission.{column_piece, bytes_in}
 use Rattle.emission.specs.Refusal.{fault_in}
 
@@ -32,9 +33,20 @@ unfoldable pub run_fault : ℕ → List (List ℕ) → ℕ
 run_fault k [] = 0
 run_fault k (p ∷ ps) = cond (eqb (record_fault k p) 0) (run_fault k ps) (record_fault k p)
 
+-- a run with the number of its fault, or 0
+pub record NumberedRun : Type 0 where
+  pub count : ℕ
+  pub bytes : ℕ
+  pub size : ℕ
+  pub fault : ℕ
+  pub next : ℕ
+
+abbrev pub numbered_run : Run → NumberedRun
+numbered_run r = record { count = r.count; bytes = r.bytes; size = r.size; fault = refused_by r.fault; next = r.next }
+
 -- the records of kind k that stand next at a place: how many, the bytes of their payloads, the size and the first fault of what
 -- they emit, and the place after them, each with its head of 6 bytes
-unfoldable pub run_of : List ℕ → ℕ → ℕ → Run
+unfoldable pub run_of : List ℕ → ℕ → ℕ → NumberedRun
 run_of s at k =
     let ps = ahead k (records (drop at s)) in
     record {
@@ -47,13 +59,13 @@ run_of s at k =
 
 -- the error of kind k of the set that goes on with some records, the first of which stands at a place: it stands after the set's
 -- columns, a kind 8 also after a kind 7
-unfoldable pub error_at : ℕ → ℕ → List Item → ErrorAt
-error_at k at [] = Missing
-error_at k at (cut ∷ rs) = Missing
+unfoldable pub error_at : ℕ → ℕ → List Item → std.Option Part
+error_at k at [] = None
+error_at k at (cut ∷ rs) = None
 error_at k at (item j p ∷ rs) =
-    cond (eqb j k) (At (record { start = at + 6; len = length p })) (cond (eqb j 2 || eqb j 7) (error_at k (at + 6 + length p) rs) Missing)
+    cond (eqb j k) (Some (record { start = at + 6; len = length p })) (cond (eqb j 2 || eqb j 7) (error_at k (at + 6 + length p) rs) None)
 
 -- the error that was found, as the payload of its record
-abbrev pub error_found : List ℕ → ErrorAt → Option (List ℕ)
-error_found s (At part) = some (part_bytes s part)
-error_found s Missing = none
+abbrev pub error_found : List ℕ → std.Option Part → Option (List ℕ)
+error_found s (Some part) = some (part_bytes s part)
+error_found s None = none

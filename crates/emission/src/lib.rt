@@ -3,8 +3,9 @@
 // a set's error, a column's collation.
 #![tactic(auto)]
 
-ghost use Rattle.std.specs.Prelude.{◌≡◌, cond, ◌||◌, [], ◌∷◌, ◌++◌, ◌+◌, ◌^◌, ◌≤◌, ◌<◌, eqb, length, take, drop};
+ghost use Rattle.std.specs.Prelude.{◌≡◌, cond, ◌||◌, [], ◌∷◌, ◌++◌, ◌+◌, ◌^◌, ◌≤◌, ◌<◌, length, take, drop};
 ghost use Rattle.refusals.specs.Numbers.{name_too_long};
+ghost use Rattle.refusals.specs.Refused.{numbered, refused_by};
 ghost use Rattle.script.specs.Records.{records};
 ghost use Rattle.script.specs.Runs.{ahead};
 ghost use Rattle.token.specs.Types.{type_code, collation_size};
@@ -14,60 +15,38 @@ ghost use Rattle.emission.specs.Emission.{token_piece, column_token, column_piec
 ghost use Rattle.emission.specs.Walk.{begin_pieces, pieces_of, emit_from, error_in, lead_pieces, sets_of, walked};
 ghost use Rattle.emission.specs.Refusal.{fault_in};
 ghost use Rattle.emission.specs.Length.{measure_of};
-ghost use Rattle.emission.specs.Runs.{capped, record_size, record_fault, run_of, error_at, error_found};
+ghost use Rattle.emission.specs.Runs.{capped, record_size, record_fault, numbered_run, run_of, error_at, error_found};
 ghost use Rattle.emission.specs.Inner.{longer_run, Turned, plain_turn, Sizes, after_done};
 
-use refusals::{EMPTY_CHUNK, NONE, RESULT_TOO_LONG};
-use script::{Checked, Found};
-use token::{ColumnValue, KnownColumnValue, KnownDataType, SqlDataType};
+use refusals::Refusal;
+use script::Found;
+use token::{ColumnValue, SqlDataType};
 use wire::Part;
 
-// A script's size: its reply's length, or the refusal's number.
-#[derive(Clone, Copy)]
-pub enum Measure {
-    Size(usize),
-    Refused(u8),
-}
-
 // The records of one kind that stand next at a place: how many, the bytes of their payloads, what they add to a reply as
-// far as it matters, the first fault among them, and the place after them.
+// far as it matters, the first fault among them, and the place after them. The fault stands beside the rest, which the writing
+// pass takes whatever it is.
 #[derive(Clone, Copy)]
 pub struct Run {
     pub count: usize,
     pub bytes: usize,
     pub size: usize,
-    pub fault: u8,
+    pub fault: Result<(), Refusal>,
     pub next: usize,
 }
 
-// What a record emits: its fault, its size as far as it matters, and the place where the walk goes on.
+// What a record emits that has no fault: its size as far as it matters, and the place where the walk goes on.
 #[derive(Clone, Copy)]
 struct Turn {
-    fault: u8,
     size: usize,
     next: usize,
-}
-
-#[derive(Clone, Copy)]
-struct Sized {
-    fault: u8,
-    size: usize,
 }
 
 // A size and more, up to 65,536.
 fn grown(size: usize, more: usize) -> usize
     ensures { result ≡ capped (size + more) }
 {
-    if size >= 65536 {
-        return 65536;
-    }
-    if more >= 65536 {
-        return 65536;
-    }
-    if size + more > 65536 {
-        return 65536;
-    }
-    size + more
+    size.saturating_add(more).min(65536)
 }
 
 // A size and more, neither over 65,536.
@@ -75,15 +54,7 @@ fn added(size: usize, more: usize) -> usize
     requires { (size ≤ 65536) × (more ≤ 65536) }
     ensures { result ≡ capped (size + more) }
 {
-    let sum = size + more;
-    if sum > 65536 { 65536 } else { sum }
-}
-
-// Of two refusals the first that is one.
-fn first_fault(a: u8, b: u8) -> u8
-    ensures { result ≡ cond (eqb a 0) b a }
-{
-    if a == NONE { b } else { a }
+    (size + more).min(65536)
 }
 
 // The collation of a column of a type, where the type has one.
@@ -108,25 +79,26 @@ fn column_size(p: &[u8]) -> usize
     ensures { result ≡ capped (length (bytes_in (column_piece p.now))) }
 {
     match token::data_type_of(wire::get_u8(p, 0)) {
-        KnownDataType::Known(t) => typed_size(t, p),
-        KnownDataType::Unknown => 0,
+        Some(t) => typed_size(t, p),
+        None => 0,
     }
 }
 
-// The fault of an info's names, or none.
-fn names_fault(server: &[u8], procedure: &[u8]) -> u8
-    ensures { result ≡ cond (long_name server.now || long_name procedure.now) name_too_long 0 }
+// Whether an info's names are not too long, or the refusal.
+fn names_fault(server: &[u8], procedure: &[u8]) -> Result<(), Refusal>
+    ensures { refused_by result ≡ cond (long_name server.now || long_name procedure.now) name_too_long 0 }
 {
-    first_fault(token::name_fault(server), token::name_fault(procedure))
+    token::name_fault(server)?;
+    token::name_fault(procedure)
 }
 
-// A column's fault, or none.
-fn column_fault(p: &[u8]) -> u8
-    ensures { result ≡ fault_in (column_piece p.now) }
+// Whether a column's name is not too long, or the refusal.
+fn column_fault(p: &[u8]) -> Result<(), Refusal>
+    ensures { refused_by result ≡ fault_in (column_piece p.now) }
 {
     match token::data_type_of(wire::get_u8(p, 0)) {
-        KnownDataType::Known(_) => token::name_fault(script::rest_after(p, 6)),
-        KnownDataType::Unknown => NONE,
+        Some(_) => token::name_fault(script::rest_after(p, 6)),
+        None => Ok(()),
     }
 }
 
@@ -140,24 +112,28 @@ fn record_size(kind: u16, p: &[u8]) -> usize
     grown(4, p.len())
 }
 
-fn record_fault(kind: u16, p: &[u8]) -> u8
-    ensures { result ≡ record_fault kind p.now }
+fn record_fault(kind: u16, p: &[u8]) -> Result<(), Refusal>
+    ensures { refused_by result ≡ record_fault kind p.now }
 {
     if kind == script::COLUMN {
         return column_fault(p);
     }
-    if p.len() == 0 { EMPTY_CHUNK } else { NONE }
+    if p.len() == 0 {
+        Err(Refusal::EmptyChunk)
+    } else {
+        Ok(())
+    }
 }
 
 // The records of a kind that stand next at a place; there are none past the end.
 pub fn run_at(s: &[u8], at: usize, kind: u16) -> Run
-    ensures { result ≡ run_of s.now at kind }
+    ensures { numbered_run result ≡ run_of s.now at kind }
 {
     let mut run = Run {
         count: 0,
         bytes: 0,
         size: 0,
-        fault: NONE,
+        fault: Ok(()),
         next: at,
     };
     loop {
@@ -184,26 +160,19 @@ pub fn run_at(s: &[u8], at: usize, kind: u16) -> Run
 // A run with one record more.
 fn longer(run: Run, kind: u16, p: &[u8], next: usize) -> Run
     requires { (run.count + 1 < 2 ^ 64) × (run.bytes + length p.now < 2 ^ 64) }
-    ensures { result ≡ longer_run run kind p.now next }
+    ensures { numbered_run result ≡ longer_run (numbered_run run) kind p.now next }
 {
     Run {
         count: run.count + 1,
         bytes: run.bytes + p.len(),
         size: grown(run.size, record_size(kind, p)),
-        fault: first_fault(run.fault, record_fault(kind, p)),
+        fault: run.fault.and(record_fault(kind, p)),
         next,
     }
 }
 
-// The error of a set, or none.
-#[derive(Clone, Copy)]
-pub enum ErrorAt {
-    At(Part),
-    Missing,
-}
-
 // The error of a kind in the set that goes on at a place, after its columns; past the end there is none.
-pub fn error_in(s: &[u8], at: usize, kind: u16) -> ErrorAt
+pub fn error_in(s: &[u8], at: usize, kind: u16) -> Option<Part>
     ensures value { result ≡ error_at kind at (records (drop at s.now)) }
     ensures result_value { error_found s.now result ≡ error_in kind (records (drop at s.now)) }
 {
@@ -216,15 +185,15 @@ pub fn error_in(s: &[u8], at: usize, kind: u16) -> ErrorAt
                 len,
             } => {
                 if k == kind {
-                    return ErrorAt::At(Part { start, len });
+                    return Some(Part { start, len });
                 }
                 if !((k == script::COLUMN) | (k == script::LEADING_ERROR)) {
-                    return ErrorAt::Missing;
+                    return None;
                 }
                 place = start + len;
             }
             Found::Cut | Found::End => {
-                return ErrorAt::Missing;
+                return None;
             }
         }
     }
@@ -238,63 +207,58 @@ fn error_size(p: &[u8]) -> usize
 }
 
 // The beginning of a set: COLMETADATA, columns, classification.
-fn set_turn(s: &[u8], classification: &[u8], next: usize) -> Turn
+fn set_turn(s: &[u8], classification: &[u8], next: usize) -> Result<Turn, Refusal>
     requires { next ≤ length s.now }
     ensures { Turned (begin_pieces classification.now (records (drop next s.now))) s.now next result }
 {
     let run = run_at(s, next, script::COLUMN);
-    Turn {
-        fault: run.fault,
+    run.fault?;
+    Ok(Turn {
         size: grown(grown(3, classification.len()), run.size),
         next: run.next,
-    }
+    })
 }
 
 // An info.
-fn info_turn(s: &[u8], p: &[u8], next: usize) -> Turn
+fn info_turn(s: &[u8], p: &[u8], next: usize) -> Result<Turn, Refusal>
     requires { next ≤ length s.now }
     ensures { Turned (token_piece (info_token p.now) ∷ []) s.now next result }
 {
     let server = script::info_server(p);
     let procedure = script::info_procedure(p);
+    names_fault(server, procedure)?;
     let texts = grown(
         grown(script::info_message(p).len(), server.len()),
         procedure.len(),
     );
-    let fault = names_fault(server, procedure);
-    Turn {
-        fault,
+    Ok(Turn {
         size: grown(17, texts),
         next,
-    }
+    })
 }
 
 // A cell in chunks.
-fn chunked_turn(s: &[u8], next: usize) -> Turn
+fn chunked_turn(s: &[u8], next: usize) -> Result<Turn, Refusal>
     requires { next ≤ length s.now }
     ensures { Turned (token_piece (cell (long (ahead 6 (records (drop next s.now))))) ∷ []) s.now next result }
 {
     let run = run_at(s, next, script::CHUNK);
-    Turn {
-        fault: run.fault,
+    run.fault?;
+    Ok(Turn {
         size: grown(12, run.size),
         next: run.next,
-    }
+    })
 }
 
 // A record that has no fault and takes no other with it.
-fn plain_turn(size: usize, next: usize) -> Turn
+fn plain_turn(size: usize, next: usize) -> Result<Turn, Refusal>
     ensures { result ≡ plain_turn size next }
 {
-    Turn {
-        fault: NONE,
-        size,
-        next,
-    }
+    Ok(Turn { size, next })
 }
 
 // A cell of a value, with its chunks where it has them.
-fn value_turn(s: &[u8], value: ColumnValue, p: &[u8], next: usize) -> Turn
+fn value_turn(s: &[u8], value: ColumnValue, p: &[u8], next: usize) -> Result<Turn, Refusal>
     requires { next ≤ length s.now }
     ensures { Turned (token_piece (cell (value_cell value (drop 1 p.now) (ahead 6 (records (drop next s.now))))) ∷ []) s.now next result }
 {
@@ -313,36 +277,28 @@ fn value_turn(s: &[u8], value: ColumnValue, p: &[u8], next: usize) -> Turn
 }
 
 // A cell.
-fn cell_turn(s: &[u8], p: &[u8], next: usize) -> Turn
+fn cell_turn(s: &[u8], p: &[u8], next: usize) -> Result<Turn, Refusal>
     requires { next ≤ length s.now }
     ensures { Turned (cell_pieces p.now (ahead 6 (records (drop next s.now)))) s.now next result }
 {
     match token::column_value_of(wire::get_u8(p, 0)) {
-        KnownColumnValue::Known(value) => value_turn(s, value, p, next),
-        KnownColumnValue::Unknown => plain_turn(0, next),
+        Some(value) => value_turn(s, value, p, next),
+        None => plain_turn(0, next),
     }
 }
 
 // What a record after the first set's emits.
-fn turn_at(s: &[u8], kind: u16, p: &[u8], next: usize) -> Turn
+fn turn_at(s: &[u8], kind: u16, p: &[u8], next: usize) -> Result<Turn, Refusal>
     requires { next ≤ length s.now }
     ensures { Turned (pieces_of 0 kind p.now (records (drop next s.now))) s.now next result }
 {
     match kind {
-        script::SET => ended_turn(set_turn(s, p, next)),
+        script::SET => Ok(ended_turn(set_turn(s, p, next)?)),
         script::INFO => info_turn(s, p, next),
         script::TRAILING_INFO => info_turn(s, p, next),
-        script::ROW => Turn {
-            fault: NONE,
-            size: 1,
-            next,
-        },
+        script::ROW => Ok(Turn { size: 1, next }),
         script::CELL => cell_turn(s, p, next),
-        _ => Turn {
-            fault: NONE,
-            size: 0,
-            next,
-        },
+        _ => Ok(Turn { size: 0, next }),
     }
 }
 
@@ -351,14 +307,13 @@ fn ended_turn(t: Turn) -> Turn
     ensures { result ≡ after_done t }
 {
     Turn {
-        fault: t.fault,
         size: grown(13, t.size),
         next: t.next,
     }
 }
 
-// Faults and size of what the records from a place on emit, after bytes before.
-fn sizes_from(s: &[u8], at: usize, before: usize) -> Sized
+// The size of what the records from a place on emit, after bytes before.
+fn sizes_from(s: &[u8], at: usize, before: usize) -> Result<usize, Refusal>
     requires { (at ≤ length s.now) × (before ≤ 65536) }
     ensures { Sizes (emit_from 0 (records (drop at s.now))) before result }
 {
@@ -368,71 +323,52 @@ fn sizes_from(s: &[u8], at: usize, before: usize) -> Sized
         match script::record_at(s, place) {
             Found::Record { kind, start, len } => {
                 let next = start + len;
-                let turn = turn_at(s, kind, &s[start..next], next);
-                if turn.fault != NONE {
-                    return Sized {
-                        fault: turn.fault,
-                        size,
-                    };
-                }
+                let turn = turn_at(s, kind, &s[start..next], next)?;
                 size = added(size, turn.size);
                 place = turn.next;
             }
             Found::Cut | Found::End => {
-                return Sized {
-                    fault: NONE,
-                    size: grown(size, 13),
-                };
+                return Ok(grown(size, 13));
             }
         }
     }
 }
 
-// Faults and size of the sets of a script whose first set has the classification and goes on at next, after bytes before.
-fn sets_size(s: &[u8], classification: &[u8], next: usize, before: usize) -> Sized
+// The size of the sets of a script whose first set has the classification and goes on at next, after bytes before.
+fn sets_size(s: &[u8], classification: &[u8], next: usize, before: usize) -> Result<usize, Refusal>
     requires { next ≤ length s.now }
     ensures { Sizes (begin_pieces classification.now (records (drop next s.now)) ++ emit_from 0 (records (drop next s.now))) before result }
 {
-    let turn = set_turn(s, classification, next);
-    if turn.fault != NONE {
-        return Sized {
-            fault: turn.fault,
-            size: before,
-        };
-    }
-    let at = turn.next;
-    sizes_from(s, at, grown(before, turn.size))
+    let turn = set_turn(s, classification, next)?;
+    sizes_from(s, turn.next, grown(before, turn.size))
 }
 
 // What the error of a set, where it has one, and its DONE add to a reply.
-fn lead_size(s: &[u8], error: ErrorAt) -> usize
+fn lead_size(s: &[u8], error: Option<Part>) -> usize
     ensures { result ≡ capped (length (bytes_in (lead_pieces leading_status (error_found s.now error)))) }
 {
     match error {
-        ErrorAt::At(part) => error_size(wire::part_of(s, part)),
-        ErrorAt::Missing => 0,
+        Some(part) => error_size(wire::part_of(s, part)),
+        None => 0,
     }
 }
 
-// Faults and size of a reply whose first set has the classification and goes on at next.
-fn reply_size(s: &[u8], classification: &[u8], next: usize) -> Sized
+// The size of a reply whose first set has the classification and goes on at next.
+fn reply_size(s: &[u8], classification: &[u8], next: usize) -> Result<usize, Refusal>
     requires { next ≤ length s.now }
     ensures { Sizes (sets_of classification.now (records (drop next s.now))) 8 result }
 {
     match error_in(s, next, script::TERMINAL_ERROR) {
-        ErrorAt::At(part) => Sized {
-            fault: NONE,
-            size: grown(8, error_size(wire::part_of(s, part))),
-        },
-        ErrorAt::Missing => {
+        Some(part) => Ok(grown(8, error_size(wire::part_of(s, part)))),
+        None => {
             let lead = lead_size(s, error_in(s, next, script::LEADING_ERROR));
             sets_size(s, classification, next, grown(8, lead))
         }
     }
 }
 
-// Faults and size of a script's reply.
-fn emitted_size(s: &[u8]) -> Sized
+// The size of a script's reply.
+fn emitted_size(s: &[u8]) -> Result<usize, Refusal>
     ensures { Sizes (walked s.now) 8 result }
 {
     match script::record_at(s, 0) {
@@ -444,29 +380,18 @@ fn emitted_size(s: &[u8]) -> Sized
             let next = start + len;
             reply_size(s, &s[start..next], next)
         }
-        Found::Cut | Found::End => Sized {
-            fault: NONE,
-            size: 8,
-        },
+        Found::Cut | Found::End => Ok(8),
     }
 }
 
 // The exact length of a script's reply, or its refusal, 11 to 17: two passes over its records.
-pub fn reply_length(s: &[u8]) -> Measure
-    ensures { result ≡ measure_of s.now }
+pub fn reply_length(s: &[u8]) -> Result<usize, Refusal>
+    ensures { numbered result ≡ measure_of s.now }
 {
-    match script::verdict(s) {
-        Checked::Refused(number) => {
-            return Measure::Refused(number);
-        }
-        Checked::Accepted => {}
+    script::verdict(s)?;
+    let size = emitted_size(s)?;
+    if 65535 < size {
+        return Err(Refusal::ResultTooLong);
     }
-    let sized = emitted_size(s);
-    if sized.fault != NONE {
-        return Measure::Refused(sized.fault);
-    }
-    if 65535 < sized.size {
-        return Measure::Refused(RESULT_TOO_LONG);
-    }
-    Measure::Size(sized.size)
+    Ok(size)
 }

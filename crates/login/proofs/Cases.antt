@@ -12,13 +12,10 @@ use Rattle.wire.specs.Over.{overwrite}
 use Rattle.wire.specs.Part.{part_bytes}
 use Rattle.text.specs.Units.{units_of}
 use Rattle.text.specs.Surrogates.{surrogate_of, surrogates, paired, well_formed}
-use Rattle.login.specs.declared.Byte.{Byte}
-use Rattle.login.specs.declared.Byte.TheVariants.{Is, Absent}
-use Rattle.login.specs.declared.Text.{Text}
-use Rattle.login.specs.declared.Text.TheVariants.{At, Missing}
+use Rattle.std.specs.Prelude.{Option, Some, None, Result, Ok, Err}
+use Rattle.wire.specs.declared.Part.{Part}
 use Rattle.login.specs.declared.Login.{Login}
-use Rattle.login.specs.declared.Answer.{Answer}
-use Rattle.login.specs.declared.Answer.TheVariants.{Read, Refused}
+use Rattle.login.specs.declared.Read.{Read}
 use Rattle.login.specs.Body.{text_at, has_extension, extension, features_at}
 use Rattle.login.specs.Features.{walk, features, ids_of}
 use Rattle.login.specs.Rules.{byte_at, session_after, has_options, library_in, library_after, workflow_after, token_after, version_after, user_agent_after}
@@ -40,13 +37,13 @@ pub data Told : Type 0 where
   refuses : ℕ → List ℕ → Told
   opens : List ℕ → Told
 
-abbrev is : Byte → (ℕ → Fact) → List Fact
-is (Is b) f = f b ∷ []
-is Absent f = []
+abbrev is : Option ℕ → (ℕ → Fact) → List Fact
+is (Some b) f = f b ∷ []
+is None f = []
 
-abbrev at : Text → (ℕ → ℕ → Fact) → List Fact
-at (At p) f = f p.start p.len ∷ []
-at Missing f = []
+abbrev at : Option Part → (ℕ → ℕ → Fact) → List Fact
+at (Some p) f = f p.start p.len ∷ []
+at None f = []
 
 abbrev facts : Login → List Fact
 facts l =
@@ -60,9 +57,9 @@ facts l =
     ++ at l.database base
     ++ cond l.session (session ∷ []) []
 
-abbrev told : Answer → List ℕ → Told
-told (Read l n) ids = reads (facts l) n ids
-told (Refused n) ids = refuses n ids
+abbrev told : Result Read ℕ → List ℕ → Told
+told (Ok r) ids = reads (facts r.login) r.ids ids
+told (Err n) ids = refuses n ids
 
 unfoldable pub answer : Call → Told
 answer (login s lent) = told (parse_login7 s (length lent)) (ids_after s lent)

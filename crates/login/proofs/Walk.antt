@@ -12,8 +12,7 @@ use borrow.Author.Tests.{eq-eqb, ne_eqb}
 use Rattle.wire.proofs.Cases.{split}
 use Rattle.wire.specs.Le.{le_at}
 use Rattle.login.specs.declared.Feature.{Feature}
-use Rattle.login.specs.declared.Found.{Found}
-use Rattle.login.specs.declared.Found.TheVariants.{Here, End}
+use Rattle.std.proofs.Common.{Option, Some, None}
 use Rattle.login.specs.Body.{features_at}
 use Rattle.login.specs.Features.{walk, features}
 use Rattle.login.specs.Inner.{features_from, follow, Lies}
@@ -62,7 +61,7 @@ module _ (s : List ℕ) (at : ℕ) where
   unfolding features_from
   terminated h e = rw (head at (drop at s) (simp length-drop h), first, eq-eqb _ _ e)
 
-  pub found : 5 ≤ length s - at → (get_or s at 0 ≡ 0xff → ⊥) → features_from s at ≡ follow s (Here (feature_of s at))
+  pub found : 5 ≤ length s - at → (get_or s at 0 ≡ 0xff → ⊥) → features_from s at ≡ follow s (Some (feature_of s at))
   unfolding features_from follow
   found h e = rw (head at (drop at s) (simp length-drop h), first, ne_eqb _ _ e, drop-drop 1 at s, drop-drop 5 at s) (ap (◌∷◌ (feature_of s at)) (pass (le_at 4 (drop (at + 1) s)) (at + 5) (drop (at + 5) s) ∙ rw drop-drop))
 
@@ -74,7 +73,7 @@ past s at =
 
 -- What a loop over features needs, from the answer of `feature_at`: no feature, or where the feature lies, and the features
 -- from the place on, where the next one is looked for after its data.
-pub ends : (s : List ℕ) (at : ℕ) {r : Found} → features_from s at ≡ follow s r → r ≡ End → features_from s at ≡ []
+pub ends : (s : List ℕ) (at : ℕ) {r : Option Feature} → features_from s at ≡ follow s r → r ≡ None → features_from s at ≡ []
 unfolding follow
 ends s at e h = e ∙ ap (follow s) h
 
@@ -83,7 +82,7 @@ pub record Stands (s : List ℕ) (at : ℕ) (f : Feature) : Type 0 where
   pub whole : at + 5 ≤ length s
   pub turn : {next : ℕ} → next ≡ min (f.part.start + f.part.len) (length s) → features_from s at ≡ f ∷ features_from s next
 
-pub stands : (s : List ℕ) (at : ℕ) {r : Found} {f : Feature} → features_from s at ≡ follow s r → Lies s at r → r ≡ Here f → Stands s at f
+pub stands : (s : List ℕ) (at : ℕ) {r : Option Feature} {f : Feature} → features_from s at ≡ follow s r → Lies s at r → r ≡ Some f → Stands s at f
 unfolding follow Lies
 stands s at {f = f} e l h =
     let lies = rw h at l in

@@ -1,23 +1,20 @@
 -- The login, its feature ids, and the database to open (document 01, 'Requests and logins'). Rests on Body, Features and Rules.
 -- docs/FORMATS.md, 'Requests that are read', has it in words.
-use Rattle.std.specs.Prelude.{ℕ, false, cond, length, ltb}
+use Rattle.std.specs.Prelude.{ℕ, false, cond, length, ltb, Option, Some, None, Result, Ok, Err}
 use mathlib.Core.List.{List, foldl}
 use Rattle.refusals.specs.Numbers.{buffer_too_short}
 use Rattle.wire.specs.Over.{overwrite}
 use Rattle.wire.specs.Part.{part_bytes}
-use Rattle.login.specs.declared.Byte.TheVariants.{Absent}
-use Rattle.login.specs.declared.Text.{Text}
-use Rattle.login.specs.declared.Text.TheVariants.{At, Missing}
+use Rattle.wire.specs.declared.Part.{Part}
 use Rattle.login.specs.declared.Feature.{Feature}
 use Rattle.login.specs.declared.Login.{Login}
-use Rattle.login.specs.declared.Answer.{Answer}
-use Rattle.login.specs.declared.Answer.TheVariants.{Read, Refused}
+use Rattle.login.specs.declared.Read.{Read}
 use Rattle.login.specs.Body.{text_at}
 use Rattle.login.specs.Features.{features, ids_of}
 use Rattle.login.specs.Rules.{session_after, fedauth_after, library_after, workflow_after, token_after, version_after, user_agent_after}
 
 -- the login's own database: the text of the entry ibDatabase, at 68
-unfoldable pub database_part : List ℕ → Text
+unfoldable pub database_part : List ℕ → Option Part
 database_part s = text_at s 68
 
 -- a login before its features: the server name, which is the text of the entry ibServerName, at 52, and the database
@@ -25,12 +22,12 @@ unfoldable pub head_of : List ℕ → Login
 head_of s =
     record {
       has_fedauth = false;
-      access_token_bytes = Missing;
+      access_token_bytes = None;
       fedauth_library = 0;
-      fedauth_workflow = Absent;
+      fedauth_workflow = None;
       server_name = text_at s 52;
-      user_agent = Missing;
-      data_classification_version = Absent;
+      user_agent = None;
+      data_classification_version = None;
       database = database_part s;
       session = false;
     }
@@ -56,19 +53,19 @@ unfoldable pub login_of : List ℕ → Login
 login_of s = foldl (after s) (head_of s) (features s)
 
 -- the answer where room bytes are lent for the feature ids: the login and their number, or 20
-unfoldable pub parse_login7 : List ℕ → (room : ℕ) → Answer
+unfoldable pub parse_login7 : List ℕ → (room : ℕ) → Result Read ℕ
 parse_login7 s room =
     let n = length (features s) in
-    cond (ltb room n) (Refused buffer_too_short) (Read (login_of s) n)
+    cond (ltb room n) (Err buffer_too_short) (Ok (record { login = login_of s; ids = n }))
 
 -- what stands in the lent bytes afterwards: the ids in the first of them, or where there is no room what stood there
 unfoldable pub ids_after : List ℕ → List ℕ → List ℕ
 ids_after s old = cond (ltb (length old) (length (features s))) old (overwrite old 0 (ids_of (features s)))
 
 -- a text of a body, or where it has none the lent default
-abbrev pub text_or : Text → List ℕ → List ℕ → List ℕ
-text_or (At p) s other = part_bytes s p
-text_or Missing s other = other
+abbrev pub text_or : Option Part → List ℕ → List ℕ → List ℕ
+text_or (Some p) s other = part_bytes s p
+text_or None s other = other
 
 -- the database to open: the login's own, or where it has none the lent default
 unfoldable pub database_of : List ℕ → List ℕ → List ℕ

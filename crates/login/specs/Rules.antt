@@ -1,18 +1,15 @@
 -- What each feature does to a login (MS-TDS 2.2.6.4, FeatureOpt; document 01: as the Rust has it), value by value: was is the
 -- value before the feature, x what the body holds of its data. Any other feature changes nothing. Rests on wire and text.
-use Rattle.std.specs.Prelude.{ℕ, ◌+◌, ◌/◌, ◌%◌, List, [], ◌∷◌, Bool, cond, ◌&&◌, ◌||◌, length, drop, leb, ltb, eqb}
+use Rattle.std.specs.Prelude.{ℕ, ◌+◌, ◌/◌, ◌%◌, List, [], ◌∷◌, Bool, cond, ◌&&◌, ◌||◌, length, drop, leb, ltb, eqb, Option, Some, None}
 use Rattle.wire.specs.Le.{le_at}
 use Rattle.text.specs.Surrogates.{well_formed}
-use Rattle.login.specs.declared.Byte.{Byte}
-use Rattle.login.specs.declared.Byte.TheVariants.{Is, Absent}
-use Rattle.login.specs.declared.Text.{Text}
-use Rattle.login.specs.declared.Text.TheVariants.{At}
+use Rattle.wire.specs.declared.Part.{Part}
 use Rattle.login.specs.declared.Feature.{Feature}
 
 -- the first of some bytes
-unfoldable pub byte_at : List ℕ → Byte
-byte_at [] = Absent
-byte_at (b ∷ l) = Is b
+unfoldable pub byte_at : List ℕ → Option ℕ
+byte_at [] = None
+byte_at (b ∷ l) = Some b
 
 -- data that do not run past the body's end
 abbrev pub whole : Feature → List ℕ → Bool
@@ -39,22 +36,22 @@ unfoldable pub library_after : Feature → List ℕ → ℕ → ℕ
 library_after f x was = cond (has_options f x) (library_in x) was
 
 -- the workflow: every FEDAUTH of library 2 sets it to its second byte, and to none where it has no second byte
-unfoldable pub workflow_after : Feature → List ℕ → Byte → Byte
+unfoldable pub workflow_after : Feature → List ℕ → Option ℕ → Option ℕ
 workflow_after f x was = cond (has_options f x && eqb (library_in x) 2) (byte_at (drop 1 x)) was
 
 -- The token: every FEDAUTH of library 1 that holds a length (4 bytes) and the token sets it. In the Rust its data have six
 -- bytes at least, also where the token is empty, and what stands after the token is not looked at. No feature takes a token
 -- back.
-unfoldable pub token_after : Feature → List ℕ → Text → Text
+unfoldable pub token_after : Feature → List ℕ → Option Part → Option Part
 token_after f x was =
     let n = le_at 4 (drop 1 x) in
-    cond (has_options f x && eqb (library_in x) 1 && ltb 5 (length x) && leb (5 + n) (length x)) (At (record { start = f.part.start + 5; len = n })) was
+    cond (has_options f x && eqb (library_in x) 1 && ltb 5 (length x) && leb (5 + n) (length x)) (Some (record { start = f.part.start + 5; len = n })) was
 
 -- DATACLASSIFICATION (09): its version is the first byte, in the Rust also of data that run past the end, and none where that
 -- byte is not there. A length of 0 leaves the version as it was.
-unfoldable pub version_after : Feature → List ℕ → Byte → Byte
+unfoldable pub version_after : Feature → List ℕ → Option ℕ → Option ℕ
 version_after f x was = cond (eqb f.id 0x09 && ltb 0 f.part.len) (byte_at x) was
 
 -- USERAGENT (10): the data, where they are whole and UTF-16. Empty data are a text.
-unfoldable pub user_agent_after : Feature → List ℕ → Text → Text
-user_agent_after f x was = cond (eqb f.id 0x10 && whole f x && well_formed x) (At f.part) was
+unfoldable pub user_agent_after : Feature → List ℕ → Option Part → Option Part
+user_agent_after f x was = cond (eqb f.id 0x10 && whole f x && well_formed x) (Some f.part) was

@@ -4,6 +4,7 @@
 
 ghost use Rattle.std.specs.Prelude.{◌≡◌, ◌||◌, ◌≤◌, ◌<◌, ◌+◌, ◌^◌, min, eqb, length, drop};
 ghost use mathlib.Core.List.{foldl};
+ghost use Rattle.refusals.specs.Refused.{numbered};
 ghost use Rattle.wire.specs.Over.{overwrite};
 ghost use Rattle.login.specs.Body.{text_at, features_at};
 ghost use Rattle.login.specs.Features.{ids_of};
@@ -11,42 +12,29 @@ ghost use Rattle.login.specs.Inner.{features_from, follow, Lies};
 ghost use Rattle.login.specs.Rules.{byte_at, whole, has_options, library_in, session_after, fedauth_after, library_after, workflow_after, token_after, version_after, user_agent_after};
 ghost use Rattle.login.specs.Login.{head_of, after, parse_login7, ids_after, database_part, database_of};
 
-use refusals::BUFFER_TOO_SHORT;
+use refusals::Refusal;
 use wire::Part;
 
-// A text or a token as a part of the body, counted from its first byte.
-#[derive(Clone, Copy)]
-pub enum Text {
-    At(Part),
-    Missing,
-}
-
-// A byte that may not be there.
-#[derive(Clone, Copy)]
-pub enum Byte {
-    Is(u8),
-    Absent,
-}
-
-// Stands for `Login7AuthInfo`; session is whether the session-recovery feature carried session state.
+// Stands for `Login7AuthInfo`; a text or a token is a part of the body, counted from its first byte. session is whether the
+// session-recovery feature carried session state.
 #[derive(Clone, Copy)]
 pub struct Login {
     pub has_fedauth: bool,
-    pub access_token_bytes: Text,
+    pub access_token_bytes: Option<Part>,
     pub fedauth_library: u8,
-    pub fedauth_workflow: Byte,
-    pub server_name: Text,
-    pub user_agent: Text,
-    pub data_classification_version: Byte,
-    pub database: Text,
+    pub fedauth_workflow: Option<u8>,
+    pub server_name: Option<Part>,
+    pub user_agent: Option<Part>,
+    pub data_classification_version: Option<u8>,
+    pub database: Option<Part>,
     pub session: bool,
 }
 
-// The login and how many feature ids it has, or a refusal.
+// The login and how many feature ids it has.
 #[derive(Clone, Copy)]
-pub enum Answer {
-    Read { login: Login, ids: usize },
-    Refused(u8),
+pub struct Read {
+    pub login: Login,
+    pub ids: usize,
 }
 
 // Feature ids.
@@ -78,25 +66,25 @@ const IB_EXTENSION: usize = 56;
 const IB_DATABASE: usize = 68;
 
 // The text of an entry.
-fn read_login7_string(body: &[u8], entry: usize) -> Text
+fn read_login7_string(body: &[u8], entry: usize) -> Option<Part>
     ensures { result ≡ text_at body.now entry }
 {
     if wire::left(body, entry) < 4 {
-        return Text::Missing;
+        return None;
     }
     let start = wire::get_u16_le(body, entry) as usize;
     let len = 2 * wire::get_u16_le(body, entry + 2) as usize;
     if len == 0 {
-        return Text::Missing;
+        return None;
     }
     if body.len() < start + len {
-        return Text::Missing;
+        return None;
     }
     let part = Part { start, len };
     if !text::is_well_formed(wire::part_of(body, part)) {
-        return Text::Missing;
+        return None;
     }
-    Text::At(part)
+    Some(part)
 }
 
 // Where the features start; of a login that has none, its end.
@@ -123,30 +111,23 @@ struct Feature {
     part: Part,
 }
 
-// A feature, or none any more.
-#[derive(Clone, Copy)]
-enum Found {
-    Here(Feature),
-    End,
-}
-
 // A feature's id and length.
 const FEATURE_HEAD: usize = 5;
 
 // What stands at a place. A feature counts once its id and length are whole.
-fn feature_at(body: &[u8], at: usize) -> Found
+fn feature_at(body: &[u8], at: usize) -> Option<Feature>
     ensures at_value { features_from body.now at ≡ follow body.now result }
     ensures lies { Lies body.now at result }
 {
     if wire::left(body, at) < FEATURE_HEAD {
-        return Found::End;
+        return None;
     }
     let id = body[at];
     if id == FEATURE_EXT_TERMINATOR {
-        return Found::End;
+        return None;
     }
     let len = wire::get_u32_le(body, at + 1) as usize;
-    Found::Here(Feature {
+    Some(Feature {
         id,
         part: Part {
             start: at + FEATURE_HEAD,
@@ -159,21 +140,15 @@ fn feature_at(body: &[u8], at: usize) -> Found
 fn after_part(body: &[u8], part: Part) -> usize
     ensures { result ≡ min (part.start + part.len) (length body.now) }
 {
-    if wire::left(body, part.start) <= part.len {
-        return body.len();
-    }
-    part.start + part.len
+    part.start.saturating_add(part.len).min(body.len())
 }
 
 // What a feature does to each value of the login: `was` is the value before it, `held` what the body holds of its data.
 // The byte at a place of the data.
-fn byte_at(held: &[u8], at: usize) -> Byte
+fn byte_at(held: &[u8], at: usize) -> Option<u8>
     ensures { result ≡ byte_at (drop at held.now) }
 {
-    if at < held.len() {
-        return Byte::Is(held[at]);
-    }
-    Byte::Absent
+    held.get(at).copied()
 }
 
 // Whether the data do not run past the body's end.
@@ -225,7 +200,7 @@ fn library_after(feature: Feature, held: &[u8], was: u8) -> u8
 }
 
 // The workflow, by each FEDAUTH of the library MSAL.
-fn workflow_after(feature: Feature, held: &[u8], was: Byte) -> Byte
+fn workflow_after(feature: Feature, held: &[u8], was: Option<u8>) -> Option<u8>
     ensures { result ≡ workflow_after feature held.now was }
 {
     if !has_options(feature, held) {
@@ -238,7 +213,7 @@ fn workflow_after(feature: Feature, held: &[u8], was: Byte) -> Byte
 }
 
 // The token, by each FEDAUTH that holds one.
-fn token_after(feature: Feature, held: &[u8], was: Text) -> Text
+fn token_after(feature: Feature, held: &[u8], was: Option<Part>) -> Option<Part>
     requires { feature.part.start + length held.now < 2 ^ 64 }
     ensures { result ≡ token_after feature held.now was }
 {
@@ -255,14 +230,14 @@ fn token_after(feature: Feature, held: &[u8], was: Text) -> Text
     if held.len() - TOKEN_HEAD < len {
         return was;
     }
-    Text::At(Part {
+    Some(Part {
         start: feature.part.start + TOKEN_HEAD,
         len,
     })
 }
 
 // The classification version, by each DATACLASSIFICATION that says to have data.
-fn version_after(feature: Feature, held: &[u8], was: Byte) -> Byte
+fn version_after(feature: Feature, held: &[u8], was: Option<u8>) -> Option<u8>
     ensures { result ≡ version_after feature held.now was }
 {
     if feature.id != FEATURE_EXT_DATA_CLASSIFICATION {
@@ -275,7 +250,7 @@ fn version_after(feature: Feature, held: &[u8], was: Byte) -> Byte
 }
 
 // The user agent, by each USERAGENT that is a text.
-fn user_agent_after(feature: Feature, held: &[u8], was: Text) -> Text
+fn user_agent_after(feature: Feature, held: &[u8], was: Option<Part>) -> Option<Part>
     ensures { result ≡ user_agent_after feature held.now was }
 {
     if feature.id != FEATURE_EXT_USER_AGENT {
@@ -287,8 +262,7 @@ fn user_agent_after(feature: Feature, held: &[u8], was: Text) -> Text
     if !text::is_well_formed(held) {
         return was;
     }
-    let part = feature.part;
-    Text::At(part)
+    Some(feature.part)
 }
 
 // Whether a feature says something of a login.
@@ -317,24 +291,20 @@ fn changed(body: &[u8], login: Login, feature: Feature) -> Login
     requires { feature.part.start ≤ length body.now }
     ensures { result ≡ after body.now login feature }
 {
-    let part = feature.part;
-    let held = wire::part_of(body, part);
-    let token = login.access_token_bytes;
-    let workflow = login.fedauth_workflow;
-    let server_name = login.server_name;
-    let user_agent = login.user_agent;
-    let version = login.data_classification_version;
-    let database = login.database;
+    let held = wire::part_of(body, feature.part);
     Login {
         has_fedauth: fedauth_after(feature, login.has_fedauth),
-        access_token_bytes: token_after(feature, held, token),
+        access_token_bytes: token_after(feature, held, login.access_token_bytes),
         fedauth_library: library_after(feature, held, login.fedauth_library),
-        fedauth_workflow: workflow_after(feature, held, workflow),
-        server_name,
-        user_agent: user_agent_after(feature, held, user_agent),
-        data_classification_version: version_after(feature, held, version),
-        database,
+        fedauth_workflow: workflow_after(feature, held, login.fedauth_workflow),
+        user_agent: user_agent_after(feature, held, login.user_agent),
+        data_classification_version: version_after(
+            feature,
+            held,
+            login.data_classification_version,
+        ),
         session: session_after(feature, login.session),
+        ..login
     }
 }
 
@@ -344,44 +314,31 @@ fn head(body: &[u8]) -> Login
 {
     Login {
         has_fedauth: false,
-        access_token_bytes: Text::Missing,
+        access_token_bytes: None,
         fedauth_library: 0,
-        fedauth_workflow: Byte::Absent,
+        fedauth_workflow: None,
         server_name: read_login7_string(body, IB_SERVER_NAME),
-        user_agent: Text::Missing,
-        data_classification_version: Byte::Absent,
+        user_agent: None,
+        data_classification_version: None,
         database: read_login7_string(body, IB_DATABASE),
         session: false,
     }
 }
 
-// A login after its features, and how many they are.
-#[derive(Clone, Copy)]
-struct Walked {
-    login: Login,
-    count: usize,
-}
-
-// The login after all its features, of which the first stands at a place.
-fn read_features(body: &[u8], first: usize) -> Walked
+// The login after all its features, of which the first stands at a place, and how many they are.
+fn read_features(body: &[u8], first: usize) -> Read
     ensures login_value { result.login ≡ foldl (after body.now) (head_of body.now) (features_from body.now first) }
-    ensures count_value { result.count ≡ length (features_from body.now first) }
+    ensures ids_value { result.ids ≡ length (features_from body.now first) }
 {
     let mut at = first;
     let mut login = head(body);
-    let mut count: usize = 0;
-    loop {
-        match feature_at(body, at) {
-            Found::End => {
-                return Walked { login, count };
-            }
-            Found::Here(feature) => {
-                login = after(body, login, feature);
-                count += 1;
-                at = after_part(body, feature.part);
-            }
-        }
+    let mut ids: usize = 0;
+    while let Some(feature) = feature_at(body, at) {
+        login = after(body, login, feature);
+        ids += 1;
+        at = after_part(body, feature.part);
     }
+    Read { login, ids }
 }
 
 // The ids of the features of which the first stands at a place, in their order from the front of ids.
@@ -391,39 +348,30 @@ fn write_ids(body: &[u8], first: usize, ids: &mut [u8])
 {
     let mut at = first;
     let mut count: usize = 0;
-    loop {
-        match feature_at(body, at) {
-            Found::End => {
-                return;
-            }
-            Found::Here(feature) => {
-                ids[count] = feature.id;
-                count += 1;
-                at = after_part(body, feature.part);
-            }
-        }
+    while let Some(feature) = feature_at(body, at) {
+        ids[count] = feature.id;
+        count += 1;
+        at = after_part(body, feature.part);
     }
 }
 
 // What the body of a login says. Its feature ids go to the first of the bytes lent for them; nothing is written where these
 // are too few.
-pub fn parse_login7(body: &[u8], ids: &mut [u8]) -> Answer
-    ensures value { result ≡ parse_login7 body.now (length ids.old) }
+pub fn parse_login7(body: &[u8], ids: &mut [u8]) -> Result<Read, Refusal>
+    ensures value { numbered result ≡ parse_login7 body.now (length ids.old) }
     ensures ids_after { ids.new ≡ ids_after body.now ids.old }
 {
     let first = features_at(body);
-    let walked = read_features(body, first);
-    let login = walked.login;
-    let count = walked.count;
-    if ids.len() < count {
-        return Answer::Refused(BUFFER_TOO_SHORT);
+    let read = read_features(body, first);
+    if ids.len() < read.ids {
+        return Err(Refusal::BufferTooShort);
     }
     write_ids(body, first, ids);
-    Answer::Read { login, ids: count }
+    Ok(read)
 }
 
 // The login's own database, where it names one.
-pub fn database_part(body: &[u8]) -> Text
+pub fn database_part(body: &[u8]) -> Option<Part>
     ensures { result ≡ database_part body.now }
 {
     read_login7_string(body, IB_DATABASE)
@@ -434,7 +382,7 @@ pub fn database<'a>(body: &'a [u8], fallback: &'a [u8]) -> &'a [u8]
     ensures { result.now ≡ database_of body.now fallback.now }
 {
     match database_part(body) {
-        Text::At(part) => wire::part_of(body, part),
-        Text::Missing => fallback,
+        Some(part) => wire::part_of(body, part),
+        None => fallback,
     }
 }

@@ -12,23 +12,23 @@ use Rattle.wire.proofs.Cases.{by-test}
 use Rattle.packet.specs.Cut.{packets_of}
 use Rattle.packet.specs.Agreed.{is_packet_size, packets_length, whole_packets}
 use Rattle.packet.proofs.Counts.{size-bounds, length-packets}
-use Rattle.response.specs.declared.Built.TheVariants.{Written, Refused}
+use Rattle.std.specs.Prelude.{Ok, Err}
 use Rattle.response.specs.Answer.{first_of}
 use Rattle.response.specs.Packets.{cut_refusal, cut_built, cut_buffer}
 
 module _ (size : ℕ) (payload buf : List ℕ) where
   -- a refusal is answered, and leaves the buffer
   refused : (n : ℕ) → cut_refusal size payload (length buf) ≡ n → 1 ≤ n
-      → (Refused n ≡ cut_built size payload (length buf)) × (buf ≡ cut_buffer size payload buf)
+      → (Err n ≡ cut_built size payload (length buf)) × (buf ≡ cut_buffer size payload buf)
   unfolding cut_built cut_buffer
   refused n e h = let no = ne_eqb n 0 (λ z. omega arith) in (rw (e, no), rw (e, no))
 
-  pub wrong_size : is_packet_size size ≡ false → (Refused 32 ≡ cut_built size payload (length buf)) × (buf ≡ cut_buffer size payload buf)
+  pub wrong_size : is_packet_size size ≡ false → (Err 32 ≡ cut_built size payload (length buf)) × (buf ≡ cut_buffer size payload buf)
   unfolding cut_refusal first_of
   wrong_size h = refused 32 (rw h) (omega arith)
 
   module _ (ok : is_packet_size size ≡ true) where
-    pub too_long : 65527 < length payload → (Refused 17 ≡ cut_built size payload (length buf)) × (buf ≡ cut_buffer size payload buf)
+    pub too_long : 65527 < length payload → (Err 17 ≡ cut_built size payload (length buf)) × (buf ≡ cut_buffer size payload buf)
     unfolding cut_refusal first_of
     too_long h = refused 17 (rw (ok, lt-ltb 65527 (length payload) h)) (omega arith)
 
@@ -36,12 +36,12 @@ module _ (size : ℕ) (payload buf : List ℕ) where
       long : length (packets_of size payload) ≡ total
       long = length-packets size payload (omega (arith, size-bounds size ok)) ∙ sym e
 
-      pub too_short : length buf < total → (Refused 20 ≡ cut_built size payload (length buf)) × (buf ≡ cut_buffer size payload buf)
+      pub too_short : length buf < total → (Err 20 ≡ cut_built size payload (length buf)) × (buf ≡ cut_buffer size payload buf)
       unfolding cut_refusal first_of
       too_short h = refused 20 (rw (ok, le-ltb 65527 (length payload) most, long, lt-ltb (length buf) total h)) (omega arith)
 
       pub written : {m : List ℕ} {to : ℕ} → total ≤ length buf → Wrote buf 0 (whole_packets size payload) m to
-          → (Written to ≡ cut_built size payload (length buf)) × (m ≡ cut_buffer size payload buf)
+          → (Ok to ≡ cut_built size payload (length buf)) × (m ≡ cut_buffer size payload buf)
       unfolding cut_refusal first_of cut_built cut_buffer whole_packets
       written {m} {to} h w =
           let whole = lt-leb size 8 (omega (arith, size-bounds size ok)) in
@@ -49,10 +49,10 @@ module _ (size : ℕ) (payload buf : List ℕ) where
           let end : to ≡ total = omega (arith, v.1.place, long) in
           let fits = le-ltb (length buf) total h in
           let short = le-ltb 65527 (length payload) most in
-          (rw (ok, short, long, fits) (ap Written end), rw (ok, short, long, fits) v.0)
+          (rw (ok, short, long, fits) (ap Ok end), rw (ok, short, long, fits) v.0)
 
 -- no more bytes are written than are lent
-pub cut_small : (size : ℕ) (payload : List ℕ) (lent n : ℕ) → cut_built size payload lent ≡ Written n → n ≤ lent
+pub cut_small : (size : ℕ) (payload : List ℕ) (lent n : ℕ) → cut_built size payload lent ≡ Ok n → n ≤ lent
 unfolding cut_built cut_refusal first_of
 cut_small size payload lent n e =
     by-test (is_packet_size size)

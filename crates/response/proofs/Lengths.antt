@@ -16,8 +16,7 @@ use Rattle.wire.proofs.Fields.{size_word, size-raw}
 use Rattle.token.specs.Tokens.{us_varchar}
 use Rattle.response.specs.Login.{login_ack_token, wide, fedauth_info}
 use Rattle.response.specs.Routing.{target, plain_route, database_route}
-use Rattle.response.specs.declared.Acknowledgement.{Acknowledgement}
-use Rattle.response.specs.declared.Acknowledgement.TheVariants.{IsEnabled}
+use Rattle.std.specs.Prelude.{Option, Some}
 use Rattle.response.specs.Lists.{all_bytes, route_bytes, routes_bytes, feature_bytes, feature_ext_ack}
 use Rattle.response.specs.Inner.{capped, route_size, feature_size, all_sizes}
 use Rattle.response.proofs.Ends.{Same}
@@ -88,7 +87,7 @@ fedauth-ack-size : length (feature_ack (0x02 ∷ [])) ≡ 7
 fedauth-ack-size = sym (ap length fedauth-ack)
 
 -- of enhanced routing
-pub routing-ack-size : (b : ℕ) → length (routing_ack (IsEnabled b)) ≡ 8
+pub routing-ack-size : (b : ℕ) → length (routing_ack (Some b)) ≡ 8
 unfolding feature_ack feature_ext_ack all_bytes feature_bytes flat le
 routing-ack-size b = refl
 
@@ -97,7 +96,7 @@ acks-size : (before : Bool) (ack : List ℕ) → length (cond before ack []) + l
 acks-size true ack = add-zero _
 acks-size false ack = zero-add _
 
-tokens-size : (host : List ℕ) (port : ℕ) (rs : List Item) (login : Bool) (ack : Acknowledgement) (before : Bool)
+tokens-size : (host : List ℕ) (port : ℕ) (rs : List Item) (login : Bool) (ack : Option ℕ) (before : Bool)
     → length (routing_tokens host port rs login ack before) ≡ length (cond login login_ack_token []) + length (routing_ack ack) + all_sizes (route_size host) rs + 13
 unfolding routing_tokens
 tokens-size host port rs login ack before =
@@ -111,7 +110,7 @@ features-same rs n e = rw (features-size rs) (omega arith)
 pub challenge-same : (sts spn : List ℕ) (n : ℕ) → n ≡ capped (length (flat (fedauth_info sts spn))) → Same (15 + n) (8 + length (feature_ack (0x02 ∷ []) ++ flat (fedauth_info sts spn)))
 challenge-same sts spn n e = rw (length-append (feature_ack (0x02 ∷ [])) (flat (fedauth_info sts spn)), fedauth-ack-size) (omega arith)
 
-pub routed-same : (host : List ℕ) (port : ℕ) (rs : List Item) (login : Bool) (ack : Acknowledgement) (before : Bool) {m : ℕ} (n : ℕ)
+pub routed-same : (host : List ℕ) (port : ℕ) (rs : List Item) (login : Bool) (ack : Option ℕ) (before : Bool) {m : ℕ} (n : ℕ)
     → m ≡ length (cond login login_ack_token []) + length (routing_ack ack) → n ≡ capped (all_sizes (route_size host) rs)
     → Same (8 + m + n + 13) (8 + length (routing_tokens host port rs login ack before))
 routed-same host port rs login ack before n q e = rw (tokens-size host port rs login ack before) (omega arith)

@@ -1,20 +1,16 @@
 -- A turn of the writer over a list's records. Assumes nothing.
 use Prim.Native.Nat.{ℕ, ◌+◌, ◌-◌, ◌≤◌, min}
-use mathlib.Core.Path.{◌≡◌, refl, ap, ◌∙◌}
+use mathlib.Core.Path.{◌≡◌, refl, sym, ap, ◌∙◌}
 use mathlib.Core.List.{List, [], ◌∷◌}
 use native.Mathlib.Nat.{add-sub_cancel_left}
 use native.Mathlib.Omega.{arith}
 use lib.ListN.{length, take, drop}
 use Rattle.wire.specs.Over.{Wrote}
 use Rattle.wire.proofs.Over.{then, length_over}
-use denote.Enum.Declared.{tag_of}
-use types.Run.{OneOf}
-use Rattle.script.specs.contracts.Found.{the_type}
 use Rattle.script.specs.declared.Found.{Found}
-use Rattle.script.specs.declared.Found.TheVariants.{Record}
+use Rattle.script.specs.declared.Found.TheVariants.{Record, Cut, End}
 use Rattle.script.specs.Records.{item, records, record_at}
 use Rattle.script.proofs.Walk.{turn, cuts, ends}
-use Rattle.script.proofs.Stops.{stops}
 use Rattle.response.specs.Lists.{all_bytes}
 use Rattle.response.proofs.Writing.{nothing}
 
@@ -34,9 +30,11 @@ module _ (bytes : ℕ → List ℕ → List ℕ) (s old : List ℕ) (at : ℕ) w
     all e = m.rest new place (rw e (nothing new place (omega (arith, m.inside))))
 
     -- no record stands there: the end, or a cut one
-    pub putting-stop : (r : Found) → r ≡ record_at s from → OneOf (1 ∷ 2 ∷ []) (tag_of the_type r) → Wrote old at (all_bytes bytes (records s)) new place
+    pub putting-stop : (r : Found) → r ≡ record_at s from → ((k st len : ℕ) → r ≡ Record k st len → ⊥) → Wrote old at (all_bytes bytes (records s)) new place
     unfolding all_bytes
-    putting-stop r e h = stops e h (λ f. all (rw (cuts s from f))) (λ f. all (rw (ends s from f)))
+    putting-stop (Record k st len) e h = absurd (h k st len refl)
+    putting-stop Cut e h = all (rw (cuts s from (sym e)))
+    putting-stop End e h = all (rw (ends s from (sym e)))
 
     -- a record, whose payload is the slice from its start on
     pub putting-next : (k st len : ℕ) {next : List ℕ} {to : ℕ} → record_at s from ≡ Record k st len

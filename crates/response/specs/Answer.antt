@@ -1,11 +1,9 @@
 -- What a builder answers and what it leaves in the lent buffer, the same for all of them (document 01, 'Who causes which
 -- refusal'). Rests on wire's `overwrite`.
 -- docs/FORMATS.md, 'Which one comes first', has it in words.
-use Rattle.std.specs.Prelude.{ℕ, cond, List, [], ◌∷◌, length, eqb, ltb}
+use Rattle.std.specs.Prelude.{ℕ, Result, Ok, Err, cond, List, [], ◌∷◌, length, eqb, ltb}
 use Rattle.refusals.specs.Numbers.{buffer_too_short, result_too_long}
 use Rattle.wire.specs.Over.{overwrite}
-use Rattle.response.specs.declared.Built.{Built}
-use Rattle.response.specs.declared.Built.TheVariants.{Written, Refused}
 
 -- what is to be sent: the number that refuses it before its length counts, or 0, and its bytes, a packet or bare tokens
 pub data Reply : Type 0 where
@@ -21,10 +19,10 @@ unfoldable pub refusal_of : ℕ → ℕ → ℕ → ℕ
 refusal_of fault size room = first_of (fault ∷ cond (ltb 65535 size) result_too_long 0 ∷ cond (ltb room size) buffer_too_short 0 ∷ [])
 
 -- the answer: how many bytes were written, or the refusal
-unfoldable pub built_of : Reply → List ℕ → Built
+unfoldable pub built_of : Reply → List ℕ → Result ℕ ℕ
 built_of (reply fault bytes) buf =
     let n = refusal_of fault (length bytes) (length buf) in
-    cond (eqb n 0) (Written (length bytes)) (Refused n)
+    cond (eqb n 0) (Ok (length bytes)) (Err n)
 
 -- the lent buffer, the reply's bytes first; a refusal leaves it
 unfoldable pub buffer_of : Reply → List ℕ → List ℕ

@@ -1,8 +1,7 @@
 -- What the private functions of this crate promise each other: sizes, and what is known of a list before it is written.
 -- Rests on script's records.
-use Rattle.std.specs.Prelude.{ℕ, ◌+◌, ◌-◌, min, cond, List, [], ◌∷◌, length, eqb}
+use Rattle.std.specs.Prelude.{ℕ, Result, Ok, Err, ◌+◌, ◌-◌, min, cond, List, [], ◌∷◌, length, eqb}
 use Rattle.script.specs.Records.{Item, item, cut}
-use Rattle.response.specs.declared.Measured.{Measured}
 
 -- a size as far as it counts: one over 65,535 refuses, however large it is
 abbrev pub capped : ℕ → ℕ
@@ -22,6 +21,6 @@ all_sizes size [] = 0
 all_sizes size (cut ∷ rs) = all_sizes size rs
 all_sizes size (item k p ∷ rs) = size k p + all_sizes size rs
 
--- what is known of a list with a refusal, or 0, and a size: the size counts where there is no refusal
-unfoldable pub measured : ℕ → ℕ → Measured
-measured fault size = record { refusal = fault; size = cond (eqb fault 0) (capped size) 0 }
+-- what is known of a list with a refusal, or 0, and a size: the refusal, or the size as far as it counts
+unfoldable pub measured : ℕ → ℕ → Result ℕ ℕ
+measured fault size = cond (eqb fault 0) (Ok (capped size)) (Err fault)

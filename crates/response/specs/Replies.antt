@@ -1,6 +1,6 @@
 -- What each `build_` function sends, in the order of the Rust: the refusal before its length counts, and the bytes.
 -- Functions that wrap their tokens in a packet say `packet_of`, the others hand out bare tokens. Rests on all others.
-use Rattle.std.specs.Prelude.{ℕ, Bool, true, false, cond, not, List, [], ◌∷◌, ◌++◌, eqb}
+use Rattle.std.specs.Prelude.{ℕ, Option, Some, None, Bool, true, false, cond, not, List, [], ◌∷◌, ◌++◌, eqb}
 use Rattle.wire.specs.Be.{be}
 use Rattle.wire.specs.Fields.{Field, word, raw, flat}
 use Rattle.text.specs.Surrogates.{utf8_length}
@@ -8,8 +8,6 @@ use Rattle.packet.specs.Reply.{packet_of}
 use Rattle.script.specs.Records.{Item, item, records}
 use Rattle.token.specs.Tokens.{done, message, token_bytes, message_length}
 use Rattle.token.specs.Names.{name_fault}
-use Rattle.response.specs.declared.Acknowledgement.{Acknowledgement}
-use Rattle.response.specs.declared.Acknowledgement.TheVariants.{IsEnabled, Missing}
 use Rattle.response.specs.Answer.{Reply, reply, first_of}
 use Rattle.text.specs.Arguments.{text_fault}
 use Rattle.response.specs.Login.{env_change, prelogin, login_ack_token, fedauth_info}
@@ -100,21 +98,21 @@ database_route_reply host port database =
     reply (first_of (text_fault host ∷ text_fault database ∷ [])) (flat (database_route host port database))
 
 -- an acknowledgement of enhanced routing, or none
-abbrev pub routing_ack : Acknowledgement → List ℕ
-routing_ack (IsEnabled b) = feature_ack (0x0F ∷ b ∷ [])
-routing_ack Missing = []
+abbrev pub routing_ack : Option ℕ → List ℕ
+routing_ack (Some b) = feature_ack (0x0F ∷ b ∷ [])
+routing_ack None = []
 
 -- the login's acknowledgement where it is sent, the routes' ENVCHANGEs with the acknowledgement of enhanced routing before
 -- or after them, DONE
-unfoldable pub routing_tokens : List ℕ → ℕ → List Item → Bool → Acknowledgement → Bool → List ℕ
+unfoldable pub routing_tokens : List ℕ → ℕ → List Item → Bool → Option ℕ → Bool → List ℕ
 routing_tokens host port routes login ack before =
     cond login login_ack_token [] ++ cond before (routing_ack ack) [] ++ routes_bytes host port routes
     ++ cond (not before) (routing_ack ack) [] ++ token_bytes (done 0x0000 0xC1 0)
 
-unfoldable pub routing_login_reply : List ℕ → ℕ → List Item → Bool → Acknowledgement → Bool → Reply
+unfoldable pub routing_login_reply : List ℕ → ℕ → List Item → Bool → Option ℕ → Bool → Reply
 routing_login_reply host port routes login ack before =
     reply (first_of (text_fault host ∷ routes_fault routes ∷ [])) (packet_of (routing_tokens host port routes login ack before))
 
 -- one plain route, after the login's acknowledgement
 unfoldable pub routing_reply : List ℕ → ℕ → Reply
-routing_reply host port = routing_login_reply host port (item 0x11 [] ∷ []) true Missing false
+routing_reply host port = routing_login_reply host port (item 0x11 [] ∷ []) true None false

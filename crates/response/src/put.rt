@@ -5,13 +5,12 @@ ghost use Rattle.wire.specs.Be.{be};
 ghost use Rattle.wire.specs.Fields.{flat, word, raw};
 ghost use Rattle.wire.specs.Over.{Wrote};
 ghost use Rattle.script.specs.Records.{records};
-ghost use Rattle.response.specs.Login.{login_ack_token, feature, info_option, info_options, fedauth_info};
+ghost use Rattle.response.specs.Login.{login_ack_token, info_option, info_options, fedauth_info};
 ghost use Rattle.response.specs.Routing.{target, plain_route, database_route};
-ghost use Rattle.response.specs.Lists.{route_bytes, routes_bytes, features_bytes, feature_ext_ack};
+ghost use Rattle.response.specs.Lists.{feature_ext_ack};
 ghost use Rattle.response.specs.Replies.{error_fields, routing_ack, routing_tokens};
 
-use crate::{Acknowledgement, PLAIN_ROUTE};
-use script::Found;
+use crate::lists::{Features, Routes, put_records};
 
 // The codes of tokens, as MS-TDS numbers them.
 const ENVCHANGE: u8 = 0xE3;
@@ -33,10 +32,10 @@ const STSURL: u8 = 0x01;
 const SPN: u8 = 0x02;
 
 // A place in the buffer, or its end where that comes first: where nothing is written.
-fn put_nothing(buf: &[u8], at: usize) -> usize
+pub(crate) fn put_nothing(buf: &[u8], at: usize) -> usize
     ensures { result ≡ min at (length buf.now) }
 {
-    if buf.len() < at { buf.len() } else { at }
+    at.min(buf.len())
 }
 
 // A text after a count.
@@ -67,7 +66,7 @@ fn put_target(buf: &mut [u8], at: usize, host: &[u8], port: u16) -> usize
     put_text(buf, b, (host.len() / 2 % 65536) as u16, host)
 }
 
-fn put_plain_route(buf: &mut [u8], at: usize, host: &[u8], port: u16) -> usize
+pub(crate) fn put_plain_route(buf: &mut [u8], at: usize, host: &[u8], port: u16) -> usize
     ensures { Wrote buf.old at (flat (plain_route host.now port)) buf.new result }
 {
     let size = 5 + host.len() % 65536;
@@ -76,7 +75,13 @@ fn put_plain_route(buf: &mut [u8], at: usize, host: &[u8], port: u16) -> usize
     wire::put_u16_le(buf, b, 0)
 }
 
-fn put_database_route(buf: &mut [u8], at: usize, host: &[u8], port: u16, database: &[u8]) -> usize
+pub(crate) fn put_database_route(
+    buf: &mut [u8],
+    at: usize,
+    host: &[u8],
+    port: u16,
+    database: &[u8],
+) -> usize
     ensures { Wrote buf.old at (flat (database_route host.now port database.now)) buf.new result }
 {
     let size = 7 + host.len() % 65536 + database.len() % 65536;
@@ -86,80 +91,12 @@ fn put_database_route(buf: &mut [u8], at: usize, host: &[u8], port: u16, databas
     wire::put_u16_le(buf, c, 0)
 }
 
-// A feature that is acknowledged, from its id and data.
-fn put_feature(buf: &mut [u8], at: usize, p: &[u8]) -> usize
-    ensures { Wrote buf.old at (flat (feature p.now [])) buf.new result }
-{
-    let a = wire::put_u8(buf, at, wire::get_u8(p, 0));
-    let b = wire::put_u32_le(buf, a, (wire::left(p, 1) % 0x1_0000_0000) as u32);
-    wire::put_slice(buf, b, script::rest_after(p, 1))
-}
-
-// A route by its record's kind and payload.
-pub(crate) fn put_route(
-    buf: &mut [u8],
-    at: usize,
-    kind: u16,
-    p: &[u8],
-    host: &[u8],
-    port: u16,
-) -> usize
-    ensures { Wrote buf.old at (route_bytes host.now port kind p.now) buf.new result }
-{
-    if kind == PLAIN_ROUTE {
-        return put_plain_route(buf, at, host, port);
-    }
-    put_database_route(buf, at, host, port, p)
-}
-
-// The routes of a list that no refusal met.
-fn put_routes(buf: &mut [u8], at: usize, list: &[u8], host: &[u8], port: u16) -> usize
-    ensures { Wrote buf.old at (routes_bytes host.now port (records list.now)) buf.new result }
-{
-    let mut place = put_nothing(buf, at);
-    let mut from: usize = 0;
-    loop {
-        match script::record_at(list, from) {
-            Found::Cut | Found::End => {
-                return place;
-            }
-            Found::Record { kind, start, len } => {
-                let next = start + len;
-                let payload = &list[start..next];
-                place = put_route(buf, place, kind, payload, host, port);
-                from = next;
-            }
-        }
-    }
-}
-
-// The features of a list that no refusal met.
-fn put_features(buf: &mut [u8], at: usize, list: &[u8]) -> usize
-    ensures { Wrote buf.old at (features_bytes (records list.now)) buf.new result }
-{
-    let mut place = put_nothing(buf, at);
-    let mut from: usize = 0;
-    loop {
-        match script::record_at(list, from) {
-            Found::Cut | Found::End => {
-                return place;
-            }
-            Found::Record { start, len, .. } => {
-                let next = start + len;
-                let payload = &list[start..next];
-                place = put_feature(buf, place, payload);
-                from = next;
-            }
-        }
-    }
-}
-
 // FEATUREEXTACK of a list of features.
 pub(crate) fn put_feature_ext_ack(buf: &mut [u8], at: usize, list: &[u8]) -> usize
     ensures { Wrote buf.old at (feature_ext_ack (records list.now)) buf.new result }
 {
     let a = wire::put_u8(buf, at, FEATUREEXTACK);
-    let b = put_features(buf, a, list);
+    let b = put_records(buf, a, list, &Features);
     wire::put_u8(buf, b, FEATURE_EXT_TERMINATOR)
 }
 
@@ -236,18 +173,18 @@ fn put_login_ack(buf: &mut [u8], at: usize, sent: bool) -> usize
 }
 
 // The acknowledgement of enhanced routing, where it is sent.
-fn put_routing_ack(buf: &mut [u8], at: usize, sent: bool, ack: Acknowledgement) -> usize
+fn put_routing_ack(buf: &mut [u8], at: usize, sent: bool, ack: Option<u8>) -> usize
     ensures { Wrote buf.old at (cond sent (routing_ack ack) []) buf.new result }
 {
     if !sent {
         return put_nothing(buf, at);
     }
     match ack {
-        Acknowledgement::IsEnabled(enabled) => {
+        Some(enabled) => {
             let features = [2, 0, 0, 0, 0x13, 0, 0x0F, enabled];
             put_feature_ext_ack(buf, at, &features)
         }
-        Acknowledgement::Missing => put_nothing(buf, at),
+        None => put_nothing(buf, at),
     }
 }
 
@@ -255,18 +192,17 @@ fn put_routing_ack(buf: &mut [u8], at: usize, sent: bool, ack: Acknowledgement) 
 pub(crate) fn put_routing_tokens(
     buf: &mut [u8],
     at: usize,
-    host: &[u8],
-    port: u16,
     routes: &[u8],
+    to: &Routes,
     login_ack: bool,
-    ack: Acknowledgement,
+    ack: Option<u8>,
     ack_before_routing: bool,
 ) -> usize
-    ensures { Wrote buf.old at (routing_tokens host.now port (records routes.now) login_ack ack ack_before_routing) buf.new result }
+    ensures { Wrote buf.old at (routing_tokens to.now.host.now to.now.port (records routes.now) login_ack ack ack_before_routing) buf.new result }
 {
     let a = put_login_ack(buf, at, login_ack);
     let b = put_routing_ack(buf, a, ack_before_routing, ack);
-    let c = put_routes(buf, b, routes, host, port);
+    let c = put_records(buf, b, routes, to);
     let d = put_routing_ack(buf, c, !ack_before_routing, ack);
     token::put_done(buf, d, 0, 0)
 }

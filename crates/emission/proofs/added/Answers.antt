@@ -3,10 +3,6 @@ use native.Mathlib.Omega.{arith}
 use Rattle.emission.specs.Runs.{capped}
 use Rattle.emission.proofs.added.Goals as goal
 
-pub returns-then-sum-gt65536 : goal.returns-then-sum-gt65536
+pub returns : goal.returns
 unfolding capped
-returns-then-sum-gt65536 c = omega arith
-
-pub returns-else-sum-gt65536 : goal.returns-else-sum-gt65536
-unfolding capped
-returns-else-sum-gt65536 c = omega arith
+returns c = omega arith

@@ -7,12 +7,12 @@ use Rattle.emission.proofs.Sizes.{fault-one}
 use Rattle.emission.proofs.Values.{column-known, column-unknown}
 use Rattle.emission.proofs.column_fault.Goals as goal
 
-pub returns-in-Known : goal.returns-in-Known
-returns-in-Known c = let p = c.args.p.now in
-    rw (column-known p c.get_u8.ensures c.data_type_of.ensures c.in-Known.is)
-    (c.name_fault.ensures ∙ ap name_fault c.rest_after.ensures ∙ sym (fault-one (column_token c.in-Known.field-0 p)))
+pub returns-in-Some : goal.returns-in-Some
+returns-in-Some c = let p = c.args.p.now in
+    rw (column-known p c.get_u8.ensures c.data_type_of.ensures c.in-Some.is)
+    (c.name_fault.ensures ∙ ap name_fault c.rest_after.ensures ∙ sym (fault-one (column_token c.in-Some.field-0 p)))
 
-pub returns-in-Unknown : goal.returns-in-Unknown
+pub returns-in-None : goal.returns-in-None
 unfolding fault_in
-returns-in-Unknown c = let p = c.args.p.now in
-    rw (column-unknown p c.get_u8.ensures c.data_type_of.ensures c.in-Unknown.is)
+returns-in-None c = let p = c.args.p.now in
+    rw (column-unknown p c.get_u8.ensures c.data_type_of.ensures c.in-None.is)

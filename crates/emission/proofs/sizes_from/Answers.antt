@@ -1,4 +1,5 @@
 -- `emission::sizes_from` meets its contract. Assumes nothing.
+use Rattle.std.proofs.lemmas.Result.{err_from_is_err_and}
 use borrow.Enum.Refused.{opened}
 use Rattle.script.proofs.Walk
 use Rattle.emission.proofs.Sizes.{cap-small}
@@ -20,27 +21,28 @@ slice_bounds-turn_at-start c = omega (arith, (Walk.lies c.args.s.now c.loop-kind
 pub slice_bounds-turn_at-end : goal.slice_bounds-turn_at-end
 slice_bounds-turn_at-end c = omega (arith, (Walk.lies c.args.s.now c.loop-kind.place (sym c.record_at.ensures ∙ c.in-Record.is)))
 
-pub turn_at-turn-requires : goal.turn_at-turn-requires
-turn_at-turn-requires c = (Walk.lies c.args.s.now c.loop-kind.place (sym c.record_at.ensures ∙ c.in-Record.is)).1
+pub turn_at-requires : goal.turn_at-requires
+turn_at-requires c = (Walk.lies c.args.s.now c.loop-kind.place (sym c.record_at.ensures ∙ c.in-Record.is)).1
 
-pub returns-then-turn-ne-NONE : goal.returns-then-turn-ne-NONE
-returns-then-turn-ne-NONE c = let t = c.turn_at-turn in
-    let e = left-bad c.args.s.now c.loop-kind.place _ c.in-Record.start c.in-Record.len t.result (sym c.record_at.ensures ∙ c.in-Record.is) t.ensures c.if-turn-ne-NONE.true in
-    record { fault = sym e ∙ c.loop-kind.invariant.1; size = λ z. absurd (c.if-turn-ne-NONE.true z) }
+pub returns-in_err-turn-in-Record : goal.returns-in_err-turn-in-Record
+returns-in_err-turn-in-Record c =
+    let p = err_from_is_err_and c.from_residual.result c.from_residual.ensures.1 in
+    let r = c.in_err-turn-in-Record.field-0.0 in
+    let e = left-bad c.args.s.now c.loop-kind.place _ c.in-Record.start c.in-Record.len (sym c.record_at.ensures ∙ c.in-Record.is) r c.in_err-turn-in-Record.ensures in
+    rw (p.1, p.2) (record { fault = sym e ∙ c.loop-kind.invariant.1; size = tt })
 
 pub added-size-requires : goal.added-size-requires
-added-size-requires c = (c.loop-kind.invariant.3, rw c.turn_at-turn.ensures.size (cap-small _))
+added-size-requires c = (c.loop-kind.invariant.3, rw c.in_ok-turn-in-Record.ensures.turn.size (cap-small _))
 
 pub loop-kind-smaller : goal.loop-kind-smaller
-loop-kind-smaller c = omega (arith, (Walk.lies c.args.s.now c.loop-kind.place (sym c.record_at.ensures ∙ c.in-Record.is)), c.turn_at-turn.ensures.goes.from, c.turn_at-turn.ensures.goes.lies)
+loop-kind-smaller c = omega (arith, (Walk.lies c.args.s.now c.loop-kind.place (sym c.record_at.ensures ∙ c.in-Record.is)), c.in_ok-turn-in-Record.ensures.turn.goes.from, c.in_ok-turn-in-Record.ensures.turn.goes.lies)
 
 pub loop-kind-preserved : goal.loop-kind-preserved
-loop-kind-preserved c = let t = c.turn_at-turn in
-    let z = c.if-turn-ne-NONE.false in
+loop-kind-preserved c = let t = c.in_ok-turn-in-Record in
     let old = c.loop-kind.invariant in (
-      t.ensures.goes.lies,
-      sym (left-fault c.args.s.now c.loop-kind.place _ c.in-Record.start c.in-Record.len t.result (sym c.record_at.ensures ∙ c.in-Record.is) t.ensures z) ∙ old.1,
-      rw c.added-size.ensures (left-size c.args.s.now c.loop-kind.place _ c.in-Record.start c.in-Record.len t.result (sym c.record_at.ensures ∙ c.in-Record.is) t.ensures c.loop-kind.size ∙ old.2),
+      t.ensures.turn.goes.lies,
+      sym (left-fault c.args.s.now c.loop-kind.place _ c.in-Record.start c.in-Record.len (sym c.record_at.ensures ∙ c.in-Record.is) t.turn t.ensures) ∙ old.1,
+      rw c.added-size.ensures (left-size c.args.s.now c.loop-kind.place _ c.in-Record.start c.in-Record.len (sym c.record_at.ensures ∙ c.in-Record.is) t.turn t.ensures c.loop-kind.size ∙ old.2),
       rw c.added-size.ensures (cap-small _),
     )
 
@@ -48,4 +50,4 @@ pub returns-in-Cut : goal.returns-in-Cut
 returns-in-Cut c = let l = c.loop-kind in
     let s = c.args.s.now in
     let e = stops c.record_at.ensures (opened c.in-Cut.in-Cut-own.keys2) (left_cut s l.place) (left_end s l.place) in
-    record { fault = end-fault s l.place e ∙ l.invariant.1; size = λ z. c.grown.ensures ∙ end-size s l.place e l.size ∙ l.invariant.2 }
+    record { fault = end-fault s l.place e ∙ l.invariant.1; size = c.grown.ensures ∙ end-size s l.place e l.size ∙ l.invariant.2 }

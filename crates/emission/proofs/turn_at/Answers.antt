@@ -1,16 +1,23 @@
 -- `emission::turn_at` meets its contract. Assumes nothing.
 use mathlib.Core.Path.{refl, sym, ◌∙◌}
 use native.Mathlib.Omega.{arith}
+use Rattle.std.proofs.lemmas.Result.{err_from_is_err_and}
 use Rattle.emission.specs.Walk.{pieces_of}
 use borrow.Author.Tests.{ne_eqb}
 use Rattle.token.specs.Tokens.{row}
-use Rattle.emission.proofs.Turns.{turned-done, turned-one, turned_none, goes-here}
+use Rattle.emission.proofs.Turns.{done-bad, turned-done, turned-one, turned_none, goes-here}
 use Rattle.emission.proofs.Sizes.{cap-of, cap-same, size-row}
 use Rattle.emission.proofs.turn_at.Goals as goal
 
-pub returns-in-1 : goal.returns-in-1
+pub returns-in_err-set_turn-in-1 : goal.returns-in_err-set_turn-in-1
 unfolding pieces_of
-returns-in-1 c = rw (c.in-1.is, c.ended_turn.ensures) (turned-done _ c.args.s.now c.args.next c.set_turn.result c.set_turn.ensures)
+returns-in_err-set_turn-in-1 c =
+    let p = err_from_is_err_and c.from_residual.result c.from_residual.ensures.1 in
+    rw (c.in-1.is, p.1, p.2) (done-bad _ c.args.s.now c.args.next c.in_err-set_turn-in-1.field-0.0 c.in_err-set_turn-in-1.ensures)
+
+pub returns-in_ok-set_turn-in-1 : goal.returns-in_ok-set_turn-in-1
+unfolding pieces_of
+returns-in_ok-set_turn-in-1 c = rw (c.in-1.is, c.ended_turn.ensures) (turned-done _ c.args.s.now c.args.next c.in_ok-set_turn-in-1.field-0 c.in_ok-set_turn-in-1.ensures)
 
 pub returns-in-3 : goal.returns-in-3
 unfolding pieces_of

@@ -3,10 +3,10 @@ use mathlib.Core.Path.{sym, ◌∙◌}
 use Rattle.login.specs.Login.{database_of}
 use Rattle.login.proofs.database.Goals as goal
 
-pub returns-in-At : goal.returns-in-At
+pub returns-in-Some : goal.returns-in-Some
 unfolding database_of
-returns-in-At c = simp (sym c.database_part.ensures ∙ c.in-At.is) c.part_of.ensures
+returns-in-Some c = simp (sym c.database_part.ensures ∙ c.in-Some.is) c.part_of.ensures
 
-pub returns-in-Missing : goal.returns-in-Missing
+pub returns-in-None : goal.returns-in-None
 unfolding database_of
-returns-in-Missing c = simp (sym c.database_part.ensures ∙ c.in-Missing.is)
+returns-in-None c = simp (sym c.database_part.ensures ∙ c.in-None.is)

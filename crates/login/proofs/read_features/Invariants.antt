@@ -9,7 +9,7 @@ use lib.ListN.{length}
 use Rattle.login.proofs.read_features.Given as goal
 
 abbrev pub invariant-loop-feature : goal.invariant-loop-feature
-invariant-loop-feature l = (l.count ≤ l.at) × (foldl (after l.body) l.login (features_from l.body l.at) ≡ foldl (after l.body) (head_of l.body) (features_from l.body l.first)) × (l.count + length (features_from l.body l.at) ≡ length (features_from l.body l.first))
+invariant-loop-feature l = (l.ids ≤ l.at) × (foldl (after l.body) l.login (features_from l.body l.at) ≡ foldl (after l.body) (head_of l.body) (features_from l.body l.first)) × (l.ids + length (features_from l.body l.at) ≡ length (features_from l.body l.first))
 
 abbrev pub decreases-loop-feature : goal.decreases-loop-feature
 decreases-loop-feature l = length l.body - l.at

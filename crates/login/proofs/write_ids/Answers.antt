@@ -12,24 +12,24 @@ use Rattle.login.proofs.write_ids.Goals as goal
 pub loop-feature-init : goal.loop-feature-init
 loop-feature-init c = (refl, omega (arith, c.requires), refl)
 
-pub returns-in-End : goal.returns-in-End
+pub returns : goal.returns
 unfolding overwrite ids_of
-returns-in-End c = let s = c.args.body.now in
-    let none = ends s c.loop-feature.at c.feature_at.ensures.at_value c.in-End.is in
+returns c = let s = c.args.body.now in
+    let none = ends s c.loop-feature.at c.feature_at.ensures.at_value c.in_default.is in
     rw none at c.loop-feature.invariant.2
 
 pub bounds-ids-count : goal.bounds-ids-count
-bounds-ids-count c = omega (arith, rw ((stands _ _ c.feature_at.ensures.at_value c.feature_at.ensures.lies c.in-Here.is).turn refl) at c.loop-feature.invariant.1)
+bounds-ids-count c = omega (arith, rw ((stands _ _ c.feature_at.ensures.at_value c.feature_at.ensures.lies c.in-Some.is).turn refl) at c.loop-feature.invariant.1)
 
 pub overflow_add-count : goal.overflow_add-count
-overflow_add-count c = omega (arith, rw ((stands _ _ c.feature_at.ensures.at_value c.feature_at.ensures.lies c.in-Here.is).turn refl) at c.loop-feature.invariant.1)
+overflow_add-count c = omega (arith, rw ((stands _ _ c.feature_at.ensures.at_value c.feature_at.ensures.lies c.in-Some.is).turn refl) at c.loop-feature.invariant.1)
 
 pub loop-feature-smaller : goal.loop-feature-smaller
-loop-feature-smaller c = omega (arith, (stands _ _ c.feature_at.ensures.at_value c.feature_at.ensures.lies c.in-Here.is), c.after_part-at.ensures)
+loop-feature-smaller c = omega (arith, (stands _ _ c.feature_at.ensures.at_value c.feature_at.ensures.lies c.in-Some.is), c.after_part-at.ensures)
 
 pub loop-feature-preserved : goal.loop-feature-preserved
 unfolding overwrite ids_of
-loop-feature-preserved c = let t = (stands _ _ c.feature_at.ensures.at_value c.feature_at.ensures.lies c.in-Here.is).turn c.after_part-at.ensures in
+loop-feature-preserved c = let t = (stands _ _ c.feature_at.ensures.at_value c.feature_at.ensures.lies c.in-Some.is).turn c.after_part-at.ensures in
     let i = c.loop-feature.invariant in (
       simp length-set i.0,
       simp length-set (omega (arith, rw t at i.1)),

@@ -7,12 +7,12 @@ use Rattle.response.specs.Replies.{done_reply}
 use Rattle.wire.proofs.Over.{wrote as wrote_both}
 use Rattle.response.proofs.build_done_token_with_status.Goals as goal
 
-pub returns-then-found-ne-NONE : goal.returns-then-found-ne-NONE
+pub returns-in_err-refusal : goal.returns-in_err-refusal
 unfolding done_reply
-returns-then-found-ne-NONE c = let a = c.args in
-    let w = refused 13 _ a.buf.now refl c.refusal-found.ensures (λ z. omega (arith, size-done a.status 0xC1 a.row_count)) c.if-found-ne-NONE.true in record { value = w.0; buf_after = w.1 }
+returns-in_err-refusal c = let a = c.args in
+    let w = refused 13 _ a.buf.now refl (omega (arith, size-done a.status 0xC1 a.row_count)) _ _ c.from_residual.ensures.1 c.in_err-refusal.ensures in record { value = w.0; buf_after = w.1 }
 
 pub returns : goal.returns
 unfolding done_reply
 returns c = let a = c.args in
-    let w = wrote 13 _ a.buf.now refl c.refusal-found.ensures (λ z. omega (arith, size-done a.status 0xC1 a.row_count)) c.if-found-ne-NONE.false (wrote_both c.put_done.ensures.buf_after c.put_done.ensures.place_after) in record { value = w.0; buf_after = w.1 }
+    let w = wrote 13 _ a.buf.now refl (omega (arith, size-done a.status 0xC1 a.row_count)) c.in_ok-refusal.ensures (wrote_both c.put_done.ensures.buf_after c.put_done.ensures.place_after) in record { value = w.0; buf_after = w.1 }

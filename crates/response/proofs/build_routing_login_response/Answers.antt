@@ -1,30 +1,35 @@
 -- `response::build_routing_login_response` meets its contract. Assumes nothing.
 use native.Mathlib.Omega.{arith}
-use Rattle.response.proofs.Measuring.{fault-of, size_of, small_of}
-use Rattle.response.proofs.Ends.{sent, unsent, within}
+use Rattle.response.proofs.Measuring.{fault-of, size_of}
+use Rattle.response.proofs.Ends.{faulted, sent, unsent, within}
 use Rattle.script.specs.Records.{records}
 use Rattle.response.proofs.Lengths.{routed-same}
 use Rattle.response.specs.Replies.{routing_login_reply}
 use Rattle.wire.proofs.Over.{wrote}
 use Rattle.response.proofs.build_routing_login_response.Goals as goal
 
+pub returns-in_err-routes_size : goal.returns-in_err-routes_size
+unfolding routing_login_reply
+returns-in_err-routes_size c = let a = c.args in
+    let w = faulted _ a.buf.now _ _ c.from_residual.ensures.1 (fault-of _ _ _ c.in_err-routes_size.ensures) in record { value = w.0; buf_after = w.1 }
+
 pub overflow_add-size-2 : goal.overflow_add-size-2
-overflow_add-size-2 c = omega (arith, small_of _ _ c.measure_routing-list.ensures)
+overflow_add-size-2 c = omega (arith, (size_of _ _ c.in_ok-routes_size.ensures).1)
 
 pub overflow_add-size-3 : goal.overflow_add-size-3
-overflow_add-size-3 c = omega (arith, small_of _ _ c.measure_routing-list.ensures)
+overflow_add-size-3 c = omega (arith, (size_of _ _ c.in_ok-routes_size.ensures).1)
 
-pub returns-then-found-ne-NONE : goal.returns-then-found-ne-NONE
+pub returns-in_err-refusal : goal.returns-in_err-refusal
 unfolding routing_login_reply
-returns-then-found-ne-NONE c = let a = c.args in
-    let list = c.measure_routing-list.ensures in
-    let w = unsent _ _ a.buf.now (fault-of _ _ list) c.refusal-found.ensures (λ z. routed-same a.redirect_host.now a.redirect_port (records a.routes.now) a.login_ack a.ack a.ack_before_routing _ c.login_size.ensures.0 (size_of _ _ list z)) c.if-found-ne-NONE.true in record { value = w.0; buf_after = w.1 }
+returns-in_err-refusal c = let a = c.args in
+    let list = size_of _ _ c.in_ok-routes_size.ensures in
+    let w = unsent _ _ a.buf.now list.0 (routed-same a.redirect_host.now a.redirect_port (records a.routes.now) a.login_ack a.ack a.ack_before_routing _ c.login_size.ensures.0 list.1) _ _ c.from_residual-in_err-refusal.ensures.1 c.in_err-refusal.ensures in record { value = w.0; buf_after = w.1 }
 
 pub overflow_cast-size : goal.overflow_cast-size
-overflow_cast-size c = omega (arith, within _ _ _ c.refusal-found.ensures c.if-found-ne-NONE.false)
+overflow_cast-size c = omega (arith, within _ _ c.in_ok-refusal.ensures)
 
 pub returns : goal.returns
 unfolding routing_login_reply
 returns c = let a = c.args in
-    let list = c.measure_routing-list.ensures in
-    let w = sent _ _ a.buf.now (fault-of _ _ list) c.refusal-found.ensures (λ z. routed-same a.redirect_host.now a.redirect_port (records a.routes.now) a.login_ack a.ack a.ack_before_routing _ c.login_size.ensures.0 (size_of _ _ list z)) c.if-found-ne-NONE.false (wrote c.write_reply_header-a.ensures.buf_after c.write_reply_header-a.ensures.place_after) c.put_routing_tokens.ensures in record { value = w.0; buf_after = w.1 }
+    let list = size_of _ _ c.in_ok-routes_size.ensures in
+    let w = sent _ _ a.buf.now list.0 (routed-same a.redirect_host.now a.redirect_port (records a.routes.now) a.login_ack a.ack a.ack_before_routing _ c.login_size.ensures.0 list.1) c.in_ok-refusal.ensures (wrote c.write_reply_header-a.ensures.buf_after c.write_reply_header-a.ensures.place_after) c.put_routing_tokens.ensures in record { value = w.0; buf_after = w.1 }

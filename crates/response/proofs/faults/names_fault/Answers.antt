@@ -3,8 +3,8 @@ use Rattle.response.proofs.Firsts.{found, passed, last}
 use mathlib.Core.Path.{sym, ◌∙◌}
 use Rattle.response.proofs.faults.names_fault.Goals as goal
 
-pub returns-then-found-ne-NONE : goal.returns-then-found-ne-NONE
-returns-then-found-ne-NONE c = found _ c.name_fault-found.ensures c.if-found-ne-NONE.true
+pub returns-in_err-name_fault : goal.returns-in_err-name_fault
+returns-in_err-name_fault c = found _ _ _ c.from_residual.ensures.1 c.in_err-name_fault.ensures
 
 pub returns : goal.returns
-returns c = c.name_fault.ensures ∙ sym (passed _ c.name_fault-found.ensures c.if-found-ne-NONE.false ∙ last _)
+returns c = c.name_fault-2.ensures ∙ sym (passed _ c.in_ok-name_fault.ensures ∙ last _)

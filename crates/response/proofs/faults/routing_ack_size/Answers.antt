@@ -4,5 +4,5 @@ use Rattle.response.proofs.Lengths.{routing-ack-size}
 use borrow.Author.Rules.{rules}
 use Rattle.response.proofs.faults.routing_ack_size.Goals as goal
 
-pub returns-in-IsEnabled : goal.returns-in-IsEnabled
-returns-in-IsEnabled c = rw c.in-IsEnabled.is (sym (routing-ack-size _), search rules)
+pub returns-in-Some : goal.returns-in-Some
+returns-in-Some c = rw c.in-Some.is (sym (routing-ack-size _), search rules)

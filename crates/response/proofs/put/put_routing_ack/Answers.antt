@@ -8,9 +8,9 @@ use Rattle.response.proofs.put.put_routing_ack.Goals as goal
 pub returns-then-not-sent : goal.returns-then-not-sent
 returns-then-not-sent c = rw c.if-not-sent.true (nothing _ _ c.put_nothing.ensures)
 
-pub returns-in-IsEnabled : goal.returns-in-IsEnabled
+pub returns-in-Some : goal.returns-in-Some
 unfolding feature_ack records parse le_at
-returns-in-IsEnabled c = rw (c.if-not-sent.false, c.in-IsEnabled.is) c.put_feature_ext_ack.ensures
+returns-in-Some c = rw (c.if-not-sent.false, c.in-Some.is) c.put_feature_ext_ack.ensures
 
-pub returns-in-Missing : goal.returns-in-Missing
-returns-in-Missing c = rw (c.if-not-sent.false, c.in-Missing.is) (nothing _ _ c.put_nothing-in-Missing.ensures)
+pub returns-in-None : goal.returns-in-None
+returns-in-None c = rw (c.if-not-sent.false, c.in-None.is) (nothing _ _ c.put_nothing-in-None.ensures)

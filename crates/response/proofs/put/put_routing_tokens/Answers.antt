@@ -5,4 +5,4 @@ use Rattle.response.proofs.put.put_routing_tokens.Goals as goal
 
 pub returns : goal.returns
 unfolding routing_tokens
-returns c = then (then (then (then c.put_login_ack-a.ensures c.put_routing_ack-b.ensures) c.put_routes-c.ensures) c.put_routing_ack-d.ensures) (wrote c.put_done.ensures.buf_after c.put_done.ensures.place_after)
+returns c = then (then (then (then c.put_login_ack-a.ensures c.put_routing_ack-b.ensures) c.put_records-c.ensures) c.put_routing_ack-d.ensures) (wrote c.put_done.ensures.buf_after c.put_done.ensures.place_after)

@@ -1,7 +1,7 @@
--- `response::faults::feature_fault` meets its contract. Assumes nothing.
+-- `response::lists::FeaturesListed::check` meets its contract. Assumes nothing.
 use borrow.Author.Tests.{ne_eqb}
 use Rattle.response.specs.Lists.{feature_fault}
-use Rattle.response.proofs.faults.feature_fault.Goals as goal
+use Rattle.response.proofs.lists.FeaturesListed.check.Goals as goal
 
 pub returns-then-kind-ne-FEATURE : goal.returns-then-kind-ne-FEATURE
 unfolding feature_fault

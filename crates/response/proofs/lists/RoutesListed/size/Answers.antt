@@ -1,8 +1,8 @@
--- `response::faults::route_size` meets its contract. Assumes nothing.
+-- `response::lists::RoutesListed::size` meets its contract. Assumes nothing.
 use Rattle.response.specs.Inner.{route_size}
 use borrow.Author.Tests.{ne_eqb}
 use native.Mathlib.Omega.{arith}
-use Rattle.response.proofs.faults.route_size.Goals as goal
+use Rattle.response.proofs.lists.RoutesListed.size.Goals as goal
 
 pub returns-then-kind-eq-PLAIN_ROUTE : goal.returns-then-kind-eq-PLAIN_ROUTE
 unfolding route_size

@@ -1,7 +1,7 @@
--- `response::put::put_route` meets its contract. Assumes nothing.
+-- `response::lists::RoutesListed::put` meets its contract. Assumes nothing.
 use borrow.Author.Tests.{ne_eqb}
 use Rattle.response.specs.Lists.{route_bytes}
-use Rattle.response.proofs.put.put_route.Goals as goal
+use Rattle.response.proofs.lists.RoutesListed.put.Goals as goal
 
 pub returns-then-kind-eq-PLAIN_ROUTE : goal.returns-then-kind-eq-PLAIN_ROUTE
 unfolding route_bytes

@@ -1,7 +1,7 @@
--- `response::faults::feature_size` meets its contract. Assumes nothing.
+-- `response::lists::FeaturesListed::size` meets its contract. Assumes nothing.
 use Rattle.response.specs.Inner.{feature_size}
 use native.Mathlib.Omega.{arith}
-use Rattle.response.proofs.faults.feature_size.Goals as goal
+use Rattle.response.proofs.lists.FeaturesListed.size.Goals as goal
 
 pub returns : goal.returns
 unfolding feature_size

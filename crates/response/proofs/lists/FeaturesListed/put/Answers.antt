@@ -1,16 +1,17 @@
--- `response::put::put_feature` meets its contract. Assumes nothing.
+-- `response::lists::FeaturesListed::put` meets its contract. Assumes nothing.
 use Rattle.wire.proofs.Over.{wrote, then, wrote_as}
 use Rattle.response.proofs.Writing.{alone, low}
 use Rattle.wire.specs.Fields.{flat}
+use Rattle.response.specs.Lists.{feature_bytes}
 use native.Mathlib.Omega.{arith}
 use mathlib.Core.Path.{◌≡◌}
 use lib.ListN.{length, drop, length-drop}
 use Prim.Native.Nat.{◌%◌, ◌^◌}
 use Rattle.wire.proofs.Le.{le-mod}
-use Rattle.response.proofs.put.put_feature.Goals as goal
+use Rattle.response.proofs.lists.FeaturesListed.put.Goals as goal
 
 pub returns : goal.returns
-unfolding flat
+unfolding flat feature_bytes
 returns c = let p = c.args.p.now in
     let size : c.left.result % 256 ^ 4 ≡ length (drop 1 p) % 256 ^ 4 = omega (arith, length-drop 1 p) in
     then (rw c.get_u8.ensures at (wrote c.put_u8-a.ensures.buf_after c.put_u8-a.ensures.place_after))

@@ -1,8 +1,8 @@
--- `response::faults::route_fault` meets its contract. Assumes nothing.
+-- `response::lists::RoutesListed::check` meets its contract. Assumes nothing.
 use borrow.Author.Tests.{ne_eqb}
 use mathlib.Core.Path.{sym, ◌∙◌}
 use Rattle.response.specs.Lists.{route_fault}
-use Rattle.response.proofs.faults.route_fault.Goals as goal
+use Rattle.response.proofs.lists.RoutesListed.check.Goals as goal
 
 pub returns-then-p-ne0 : goal.returns-then-p-ne0
 unfolding route_fault
