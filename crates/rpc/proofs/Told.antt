@@ -4,7 +4,7 @@ use Prim.Native.Nat.{ℕ}
 use Rattle.std.specs.Prelude.{Result, Ok, Err}
 use Rattle.std.specs.Result.{MatchResult, IsErrAnd}
 use Rattle.refusals.specs.declared.Refusal.{Refusal}
-use Rattle.refusals.specs.Refused.{number, numbered}
+use Rattle.refusals.specs.Refused.{numbered}
 use Rattle.payload.specs.Places.{Read, Place, whole, refused}
 use Rattle.rpc.specs.declared.Parameter.{Parameter}
 use Rattle.rpc.specs.declared.ParameterAt.{ParameterAt}

@@ -239,7 +239,12 @@ fn parameter_at(body: &[u8], frame: Frame, at: usize) -> Result<ParameterAt, Ref
     value_at(body, frame, next, metadata)
 }
 
-fn value_at(body: &[u8], frame: Frame, at: usize, metadata: Metadata) -> Result<ParameterAt, Refusal>
+fn value_at(
+    body: &[u8],
+    frame: Frame,
+    at: usize,
+    metadata: Metadata,
+) -> Result<ParameterAt, Refusal>
     ensures { numbered result ≡ parameter_read (value_at (source_from body.now frame) at metadata) }
 {
     let info = metadata.info;

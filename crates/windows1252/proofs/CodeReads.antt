@@ -66,7 +66,7 @@ shown-size bs = by-test (leb (length bs) most_characters) (λ t. rw (t, length-t
 pub text-size : (v : List ℕ) (part : Part) (at : ℕ) {count : ℕ} → count ≡ length (chunks_joined v) → text_at (length v) at count ≡ size_of (wholly v (whole (cell.Max part) at))
 text-size v part at e = by-test (eqb at (length v)) (λ t. rw (t, e) (shown-size (chunks_joined v))) (λ t. rw t)
 
-module _ (v : List ℕ) {frame : Frame} (b : frame ≡ body_frame (length v)) {r : Result NumberAt Refusal}
+module _ (v : List ℕ) {frame : Frame} (b : frame ≡ body_frame (length v)) (r : Result NumberAt Refusal)
     (e : numbered r ≡ number_read (number_at 8 (source_from v frame) 0 whole)) where
   total-read : numbered r ≡ number_read (number_at 8 (body_source v) 0 whole)
   total-read = rw (body-read v b) at e
@@ -81,7 +81,7 @@ module _ (v : List ℕ) {frame : Frame} (b : frame ≡ body_frame (length v)) {r
     unfolding max_at
     null-read q g = g ∙ null_size v m.next ∙ sym (ap size_of (read_by v (number-got 8 (body_source v) 0 _ total-read f ∙ if-so _ _ (eq-eqb _ _ q))))
 
-    module _ (q : m.value ≢ 0xFFFFFFFFFFFFFFFF) {k : Result ChunksAt Refusal}
+    module _ (q : m.value ≢ 0xFFFFFFFFFFFFFFFF) (k : Result ChunksAt Refusal)
         (g : numbered k ≡ chunks_read (source_from v frame) m.next (chunks_at (suc (length (source_from v frame).bytes)) false (not (eqb m.value 0xFFFFFFFFFFFFFFFE)) (source_from v frame) m.next m.value m.next)) where
       chunks-read : numbered k ≡ chunks_read (body_source v) m.next (chunks_at (suc (length v)) false (not (eqb m.value 0xFFFFFFFFFFFFFFFE)) (body_source v) m.next m.value m.next)
       chunks-read = rw (body-read v b) at g

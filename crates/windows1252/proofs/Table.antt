@@ -5,9 +5,9 @@ use mathlib.Core.List.{List}
 use mathlib.Core.Logic.{◌≢◌}
 use Rattle.std.specs.Prelude.{Option, Some, None}
 use Rattle.std.specs.Option.{MatchOption, is_some}
-use Prim.Native.Nat.{ℕ, ◌+◌, ◌<◌, ◌≤◌}
+use Prim.Native.Nat.{ℕ, ◌<◌, ◌≤◌}
 use native.Mathlib.Omega.{arith}
-use borrow.Author.Tests.{eq-eqb, ne_eqb, eqb-true, ltb-true, lt-ltb, le-ltb, le-leb, lt-leb}
+use borrow.Author.Tests.{ne_eqb, eqb-true, ltb-true, lt-ltb, le-ltb, le-leb, lt-leb}
 use lib.Dec.{eqb, ltb, leb}
 use lib.ListN.{length, get_or}
 use Rattle.wire.proofs.Cases.{split, by-test, clash}
@@ -15,7 +15,7 @@ use Rattle.payload.proofs.CodeReads.{and-true}
 use Rattle.windows1252.specs.Table.{table, unit_of, place_of, byte_of, has_byte}
 use Rattle.windows1252.specs.Code.{is_itself, byte_found}
 use Rattle.windows1252.specs.Kept.{Distinct}
-use Rattle.windows1252.proofs.Places.{every, every-at, distinct, place-of-entry, one_place, found, no_place, place-most}
+use Rattle.windows1252.proofs.Places.{every, every-at, distinct, place-of-entry, one_place, found, no_place}
 
 all-entries : length table ≡ 256
 unfolding table

@@ -18,7 +18,7 @@ returns-in_err-procedure c = let p = err_from_is_err_and c.from_residual.result 
 
 pub returns-in_err-flags : goal.returns-in_err-flags
 unfolding head_at
-returns-in_err-flags c = let p = err_from_is_err_and c.from_residual.result c.from_residual.ensures.1 in
+returns-in_err-flags c = let p = err_from_is_err_and c.from_residual-in_err-flags.result c.from_residual-in_err-flags.ensures.1 in
     rw (p.1, p.2) (sym (ap placed (then-got _ (placed-told _ c.procedure_at.ensures c.in_ok-procedure.was) ∙ number-not _ _ _ _ c.u16_at.ensures.0 c.in_err-flags.was)))
 
 pub returns : goal.returns

@@ -15,7 +15,7 @@ returns-in_err-name c = let p = err_from_is_err_and c.from_residual.result c.fro
 
 pub returns-in_err-status : goal.returns-in_err-status
 unfolding metadata_at
-returns-in_err-status c = let p = err_from_is_err_and c.from_residual.result c.from_residual.ensures.1 in
+returns-in_err-status c = let p = err_from_is_err_and c.from_residual-in_err-status.result c.from_residual-in_err-status.ensures.1 in
     rw (p.1, p.2) (sym (ap placed (then-got _ (part-is _ c.name_at.ensures c.in_ok-name.was) ∙ then-not _ (number-is-not _ c.status_at.ensures.0 c.in_err-status.was))))
 
 pub overflow_cast-metadata : goal.overflow_cast-metadata
@@ -23,7 +23,7 @@ overflow_cast-metadata c = omega (arith, below 1 c.status_at.ensures.1 c.in_ok-s
 
 pub returns-in_err-read : goal.returns-in_err-read
 unfolding metadata_at
-returns-in_err-read c = let p = err_from_is_err_and c.from_residual.result c.from_residual.ensures.1 in
+returns-in_err-read c = let p = err_from_is_err_and c.from_residual-in_err-read.result c.from_residual-in_err-read.ensures.1 in
     rw (p.1, p.2) (sym (ap placed (then-got _ (part-is _ c.name_at.ensures c.in_ok-name.was) ∙ then-got _ (number_is _ c.status_at.ensures.0 c.in_ok-status.was) ∙ then-not _ (type-is-not _ c.type_at.ensures c.in_err-read.was))))
 
 pub returns : goal.returns

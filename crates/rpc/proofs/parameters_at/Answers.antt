@@ -23,16 +23,16 @@ use Rattle.rpc.proofs.parameters_at.Goals as goal
 use Rattle.rpc.proofs.parameters_at.Goals.{then-count-number, else-count-number}
 
 -- what the frame of the whole body reads is the body
-read : (body : List ℕ) {frame : Frame} (at : ℕ) {r : Result ParameterAt Refusal} → frame ≡ body_frame (length body)
+read : (body : List ℕ) {frame : Frame} (at : ℕ) (r : Result ParameterAt Refusal) → frame ≡ body_frame (length body)
     → numbered r ≡ parameter_read (parameter_at (source_from body frame) at) → numbered r ≡ parameter_read (parameter_at (body_source body) at)
-read body at e q = q ∙ ap (λ (s : Source). parameter_read (parameter_at s at)) (body-read body e)
+read body at r e q = q ∙ ap (λ (s : Source). parameter_read (parameter_at s at)) (body-read body e)
 
 pub loop-at-init : goal.loop-at-init
 loop-at-init c = let a = c.args in begins (body_source a.body.now) a.start a.number
 
 pub returns-in_err-read : goal.returns-in_err-read
 returns-in_err-read c = let a = c.args in
-    let r = read a.body.now c.loop-at.at c.body-frame.ensures c.parameter_at.ensures in
+    let r = read a.body.now c.loop-at.at _ c.body-frame.ensures c.parameter_at.ensures in
     let p = err_from_is_err_and c.from_residual.result c.from_residual.ensures.1 in
     rw (p.1, p.2) (falls (body_source a.body.now) a.start a.number c.loop-at.invariant _ (omega arith) (parameter-told _ r c.in_err-read.was))
 
@@ -41,19 +41,19 @@ overflow_add-count c = omega (arith, c.loop-at.invariant.below)
 
 pub loop-at-smaller : goal.loop-at-smaller
 loop-at-smaller c = let a = c.args in
-    let r = read a.body.now c.loop-at.at c.body-frame.ensures c.parameter_at.ensures in
+    let r = read a.body.now c.loop-at.at _ c.body-frame.ensures c.parameter_at.ensures in
     let onto = parameter-onward (body_source a.body.now) c.loop-at.at (parameter-told _ r c.in_ok-read.was) in
     omega arith
 
 pub loop-at-preserved : goal.loop-at-preserved
 loop-at-preserved c = let a = c.args in
-    let r = read a.body.now c.loop-at.at c.body-frame.ensures c.parameter_at.ensures in
+    let r = read a.body.now c.loop-at.at _ c.body-frame.ensures c.parameter_at.ensures in
     let told = parameter-told _ r c.in_ok-read.was in
     elim c.if-count-number.branch [
       | then-count-number w ↦
-          rw (w.seen-is ∙ w.seen_with-seen.ensures) (moves (body_source a.body.now) a.start a.number c.loop-at.invariant c.in_ok-read.field-0 (omega arith) told)
+          rw (w.seen-is ∙ w.seen_with-seen.ensures) (moves (body_source a.body.now) a.start a.number c.loop-at.invariant c.in_ok-read.read (omega arith) told)
       | else-count-number w ↦
-          rw w.seen-is (passes (body_source a.body.now) a.start a.number c.loop-at.invariant c.in_ok-read.field-0 (omega arith) told w.if-count-number.false)
+          rw w.seen-is (passes (body_source a.body.now) a.start a.number c.loop-at.invariant c.in_ok-read.read (omega arith) told w.if-count-number.false)
     ]
 
 pub returns : goal.returns

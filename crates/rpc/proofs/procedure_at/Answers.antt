@@ -18,7 +18,7 @@ overflow_cast-result c = omega (arith, below 2 c.u16_at-then-units-eq-BY_NUMBER.
 
 pub returns-in_err-number : goal.returns-in_err-number
 unfolding procedure_at
-returns-in_err-number c = let p = err_from_is_err_and c.from_residual.result c.from_residual.ensures.1 in
+returns-in_err-number c = let p = err_from_is_err_and c.from_residual-in_err-number.result c.from_residual-in_err-number.ensures.1 in
     rw (p.1, p.2) (sym (ap placed (number-got _ _ _ _ c.u16_at.ensures.0 c.in_ok-units.was ∙ if-so _ _ (eq-eqb _ _ c.if-units-eq-BY_NUMBER.true) ∙ number-not _ _ _ _ c.u16_at-then-units-eq-BY_NUMBER.ensures.0 c.in_err-number.was)))
 
 pub returns-then-units-eq-BY_NUMBER : goal.returns-then-units-eq-BY_NUMBER
@@ -31,7 +31,7 @@ overflow_mul-units c = omega (arith, below 2 c.u16_at.ensures.1 c.in_ok-units.wa
 
 pub returns-in_err-name : goal.returns-in_err-name
 unfolding procedure_at
-returns-in_err-name c = let p = err_from_is_err_and c.from_residual.result c.from_residual.ensures.1 in
+returns-in_err-name c = let p = err_from_is_err_and c.from_residual-in_err-name.result c.from_residual-in_err-name.ensures.1 in
     rw (p.1, p.2) (sym (ap placed (number-got _ _ _ _ c.u16_at.ensures.0 c.in_ok-units.was ∙ if-not _ _ (ne_eqb _ _ c.if-units-eq-BY_NUMBER.false) ∙ part-not _ _ _ _ c.part_at.ensures c.in_err-name.was)))
 
 pub returns : goal.returns

@@ -1,13 +1,13 @@
 -- `windows1252::put_bytes` meets its contract. The loop's invariant: the bytes of the pairs from a place on are still to be written.
 -- Assumes nothing.
 use Prim.Native.Nat.{◌<◌}
-use mathlib.Core.Path.{◌≡◌, refl, sym, ap, ◌∙◌}
+use mathlib.Core.Path.{◌≡◌, refl, ap}
 use mathlib.Core.List.{[], ◌∷◌}
 use lib.ListN.{length}
 use native.Mathlib.Omega.{arith}
 use Rattle.wire.proofs.Over.{stored}
 use Rattle.text.specs.Units.{units_of}
-use Rattle.windows1252.specs.Table.{table, byte_of, have_bytes, bytes_of}
+use Rattle.windows1252.specs.Table.{table, byte_of}
 use Rattle.windows1252.proofs.Table.{found_has}
 use Rattle.windows1252.proofs.Texts.{length-bytes, units-in-pairs, bytes-turn, bytes-over, have-turn}
 use Rattle.windows1252.proofs.Owing.{owing-all, owing-less, owing-none}

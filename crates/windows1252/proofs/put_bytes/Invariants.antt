@@ -2,7 +2,7 @@
 -- Assumes nothing.
 use mathlib.Core.Path.{◌≡◌}
 use mathlib.Core.Bool.{true}
-use lib.ListN.{length, drop}
+use lib.ListN.{drop}
 use Rattle.text.specs.Units.{units_of}
 use Rattle.windows1252.specs.Table.{table, have_bytes, bytes_of}
 use Rattle.windows1252.proofs.Texts.{units_in}

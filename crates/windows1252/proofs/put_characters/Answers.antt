@@ -5,7 +5,7 @@ use mathlib.Core.Path.{refl}
 use mathlib.Core.List.{[], ◌∷◌}
 use native.Mathlib.Omega.{arith}
 use Rattle.wire.proofs.Over.{stored-two}
-use Rattle.windows1252.proofs.Texts.{length-text, two_bytes, text-turn, text-over}
+use Rattle.windows1252.proofs.Texts.{two_bytes, text-turn, text-over}
 use Rattle.windows1252.proofs.Owing.{owing-less, owing-none}
 use Rattle.windows1252.proofs.put_characters.Goals as goal
 
