@@ -1,6 +1,6 @@
 // The call that reads a login.
 use crate::lines;
-use login::{Answer, Byte, Login, Text};
+use login::Login;
 use std::io;
 use std::io::Write;
 use wire::Part;
@@ -12,39 +12,33 @@ const MOST_FEATURES: usize = 13107;
 pub(crate) fn answer(input: &[u8], out: &mut impl Write) -> io::Result<()> {
     let mut ids = [0u8; MOST_FEATURES];
     match login::parse_login7(input, &mut ids) {
-        Answer::Read { login, ids: count } => {
-            fedauth_lines(login, out)?;
-            other_lines(login, out)?;
+        Ok(read) => {
+            fedauth_lines(read.login, out)?;
+            other_lines(read.login, out)?;
             let held = Part {
                 start: 0,
-                len: count,
+                len: read.ids,
             };
             features_line(wire::part_of(&ids, held), out)
         }
-        Answer::Refused(number) => lines::refused(out, number),
+        Err(refusal) => lines::refused(out, refusal.number()),
     }
 }
 
 // fedauth B, library N, workflow N, token START LENGTH
 fn fedauth_lines(login: Login, out: &mut impl Write) -> io::Result<()> {
-    let workflow = login.fedauth_workflow;
-    let token = login.access_token_bytes;
     flag_line(out, b"fedauth ", login.has_fedauth)?;
     lines::number_line(out, b"library", login.fedauth_library as u64)?;
-    byte_line(out, b"workflow", workflow)?;
-    text_line(out, b"token", token)
+    byte_line(out, b"workflow", login.fedauth_workflow)?;
+    text_line(out, b"token", login.access_token_bytes)
 }
 
 // server START LENGTH, useragent START LENGTH, classversion N, database START LENGTH, session B
 fn other_lines(login: Login, out: &mut impl Write) -> io::Result<()> {
-    let server = login.server_name;
-    let agent = login.user_agent;
-    let version = login.data_classification_version;
-    let database = login.database;
-    text_line(out, b"server", server)?;
-    text_line(out, b"useragent", agent)?;
-    byte_line(out, b"classversion", version)?;
-    text_line(out, b"database", database)?;
+    text_line(out, b"server", login.server_name)?;
+    text_line(out, b"useragent", login.user_agent)?;
+    byte_line(out, b"classversion", login.data_classification_version)?;
+    text_line(out, b"database", login.database)?;
     flag_line(out, b"session ", login.session)
 }
 
@@ -61,17 +55,17 @@ fn flag_line(out: &mut impl Write, word: &[u8], set: bool) -> io::Result<()> {
     lines::end(out)
 }
 
-fn byte_line(out: &mut impl Write, word: &[u8], byte: Byte) -> io::Result<()> {
+fn byte_line(out: &mut impl Write, word: &[u8], byte: Option<u8>) -> io::Result<()> {
     match byte {
-        Byte::Is(n) => lines::number_line(out, word, n as u64),
-        Byte::Absent => none_line(out, word),
+        Some(n) => lines::number_line(out, word, n as u64),
+        None => none_line(out, word),
     }
 }
 
-fn text_line(out: &mut impl Write, word: &[u8], text: Text) -> io::Result<()> {
+fn text_line(out: &mut impl Write, word: &[u8], text: Option<Part>) -> io::Result<()> {
     match text {
-        Text::At(part) => lines::part_line(out, word, part),
-        Text::Missing => none_line(out, word),
+        Some(part) => lines::part_line(out, word, part),
+        None => none_line(out, word),
     }
 }
 

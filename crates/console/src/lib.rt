@@ -10,10 +10,7 @@ use std::io::Read;
 
 // Whether the program was given an argument of this number; its own name is number 0.
 pub fn is_given(rt: &impl Env, number: usize) -> bool {
-    match rt.arg(number, &mut []) {
-        Ok(_) | Err(FillError::TooLong) => true,
-        Err(FillError::NotPresent) => false,
-    }
+    !matches!(rt.arg(number, &mut []), Err(FillError::NotPresent))
 }
 
 // Puts an argument at the start of a buffer, and answers its length: 0 where there is none, and where the buffer has no
@@ -21,13 +18,11 @@ pub fn is_given(rt: &impl Env, number: usize) -> bool {
 pub fn argument(rt: &impl Env, number: usize, buf: &mut [u8]) -> usize
     ensures { result ≤ length buf.new }
 {
-    match rt.arg(number, buf) {
-        Ok(len) => len,
-        Err(_) => 0,
-    }
+    rt.arg(number, buf).unwrap_or(0)
 }
 
-// Reads until a buffer is full or the input ends, and answers how many bytes it put at the buffer's start.
+// Reads until a buffer is full or the input ends, and answers how many bytes it put at the buffer's start. The library's
+// `read_exact` does not say how many bytes a short input had.
 pub fn read_full<R: Read>(input: &mut R, buf: &mut [u8]) -> io::Result<usize>
     ensures bound { IfOk result (λ n. n ≤ length buf.new) }
     ensures bytes { IfOk result (λ n. Consumes (R.remaining input.old) (R.remaining input.new) (take n buf.new)) }

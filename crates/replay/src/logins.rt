@@ -1,6 +1,7 @@
 // Logins, and the database to open.
 use crate::{calls, spaces, told, words};
-use login::{Answer, Byte, Login, Text};
+use login::{Login, Read};
+use refusals::Refusal;
 use wire::Part;
 
 // What a login holds where a byte or a text is none (include/station.h).
@@ -13,25 +14,24 @@ const NO_START: u64 = u64::MAX;
 pub(crate) fn parse(line: &[u8], input: &[u8], out: &mut [u8]) -> usize {
     let mut ids = spaces::patterned();
     let lent = words::u64_at(line, 1) as usize;
-    let answer = parse_lent(input, &mut ids, lent);
-    match answer {
-        Answer::Read { login, ids: count } => tell_read(login, &ids, count, out),
-        Answer::Refused(number) => {
-            let at = told::refused(out, 0, number);
+    match parse_lent(input, &mut ids, lent) {
+        Ok(read) => tell_read(read, &ids, out),
+        Err(refusal) => {
+            let at = told::refused(out, 0, refusal.number());
             calls::tell_spilled(&ids, 0, out, at)
         }
     }
 }
 
 // A login with its ids, the first of those in the buffer.
-fn tell_read(login: Login, ids: &[u8], count: usize, out: &mut [u8]) -> usize {
-    let at = tell_login(login, out);
-    let at = told::number(out, at, count as u64);
-    let at = tell_ids(wire::part_of(ids, calls::first(count)), out, at);
-    calls::tell_spilled(ids, count, out, at)
+fn tell_read(read: Read, ids: &[u8], out: &mut [u8]) -> usize {
+    let at = tell_login(read.login, out);
+    let at = told::number(out, at, read.ids as u64);
+    let at = tell_ids(wire::part_of(ids, calls::first(read.ids)), out, at);
+    calls::tell_spilled(ids, read.ids, out, at)
 }
 
-fn parse_lent(body: &[u8], ids: &mut [u8], lent: usize) -> Answer {
+fn parse_lent(body: &[u8], ids: &mut [u8], lent: usize) -> Result<Read, Refusal> {
     if lent < ids.len() {
         return login::parse_login7(body, &mut ids[..lent]);
     }
@@ -39,13 +39,11 @@ fn parse_lent(body: &[u8], ids: &mut [u8], lent: usize) -> Answer {
 }
 
 fn tell_login(login: Login, out: &mut [u8]) -> usize {
-    let workflow = login.fedauth_workflow;
-    let version = login.data_classification_version;
     let values = [
         told::flag(login.has_fedauth),
         login.fedauth_library as u64,
-        byte(workflow),
-        byte(version),
+        byte(login.fedauth_workflow),
+        byte(login.data_classification_version),
         told::flag(login.session),
     ];
     let at = told::numbers(out, 0, &values);
@@ -53,40 +51,29 @@ fn tell_login(login: Login, out: &mut [u8]) -> usize {
 }
 
 fn tell_texts(login: Login, out: &mut [u8], at: usize) -> usize {
-    let token = login.access_token_bytes;
-    let server = login.server_name;
-    let agent = login.user_agent;
-    let database = login.database;
-    let at = tell_text(token, out, at);
-    let at = tell_text(server, out, at);
-    let at = tell_text(agent, out, at);
-    tell_text(database, out, at)
+    let at = tell_text(login.access_token_bytes, out, at);
+    let at = tell_text(login.server_name, out, at);
+    let at = tell_text(login.user_agent, out, at);
+    tell_text(login.database, out, at)
 }
 
-fn byte(value: Byte) -> u64 {
-    match value {
-        Byte::Is(n) => n as u64,
-        Byte::Absent => NO_BYTE,
-    }
+fn byte(value: Option<u8>) -> u64 {
+    value.map_or(NO_BYTE, |n| n as u64)
 }
 
-fn tell_text(text: Text, out: &mut [u8], at: usize) -> usize {
+fn tell_text(text: Option<Part>, out: &mut [u8], at: usize) -> usize {
     match text {
-        Text::At(part) => told::numbers(out, at, &[part.start as u64, part.len as u64]),
-        Text::Missing => told::numbers(out, at, &[NO_START, 0]),
+        Some(part) => told::numbers(out, at, &[part.start as u64, part.len as u64]),
+        None => told::numbers(out, at, &[NO_START, 0]),
     }
 }
 
 fn tell_ids(ids: &[u8], out: &mut [u8], from: usize) -> usize {
     let mut at = from;
     for id in ids {
-        at = told::number(out, at, wide(*id));
+        at = told::number(out, at, u64::from(*id));
     }
     at
-}
-
-fn wide(id: u8) -> u64 {
-    id as u64
 }
 
 // `database FALLBACK BODY`: whether the database to open is the bytes that the line holds.

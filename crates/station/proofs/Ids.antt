@@ -12,17 +12,17 @@ use mir.Val.{to_z, of_z}
 use borrow.Author.Tests.{lt-ltb, le-ltb}
 use Rattle.login.specs.Features.{features}
 use Rattle.login.specs.Login.{parse_login7, ids_after}
-use Rattle.login.specs.declared.Answer.{Answer}
-use Rattle.login.specs.declared.Answer.TheVariants.{Read, Refused}
+use Rattle.login.specs.declared.Read.{Read}
+use Rattle.std.specs.Prelude.{Result, Ok, Err}
 use Rattle.station.specs.Answer.{refuses, number_of, lent, filled, answer_of, slots_of}
 use Rattle.station.specs.Logins.{login_slots, login_outcome, login_call, ids_left}
 use Rattle.station.proofs.Ends.{Ended, denied}
 
 -- ---- their number
 
-abbrev Counted : ℕ → Answer → Type 0
-Counted room (Read l n) = n ≤ room
-Counted room (Refused n) = n ≡ 20
+abbrev Counted : ℕ → Result Read ℕ → Type 0
+Counted room (Ok r) = r.ids ≤ room
+Counted room (Err n) = n ≡ 20
 
 counted : (s : List ℕ) (room : ℕ) → Counted room (parse_login7 s room)
 unfolding parse_login7
@@ -33,16 +33,16 @@ counted s room =
     ]
 
 -- no more than there is room for
-pub in-room : (s : List ℕ) (room : ℕ) {a : Answer} → a ≡ parse_login7 s room → Counted room a
+pub in-room : (s : List ℕ) (room : ℕ) {a : Result Read ℕ} → a ≡ parse_login7 s room → Counted room a
 in-room s room e = rw e (counted s room)
 
 -- ---- the bytes lent for them
 
 -- too few slots: 20, whatever the login
-short : (out : List ℕ) (room : ℕ) (a : Answer) → length out < 13 → Counted room a → lent (login_outcome a) out ≡ refuses 20
+short : (out : List ℕ) (room : ℕ) (a : Result Read ℕ) → length out < 13 → Counted room a → lent (login_outcome a) out ≡ refuses 20
 unfolding lent login_slots
-short out room (Read l n) h k = simp (lt-ltb _ _ h)
-short out room (Refused n) h k = ap refuses k
+short out room (Ok r) h k = simp (lt-ltb _ _ h)
+short out room (Err n) h k = ap refuses k
 
 module _ (s ids out : List ℕ) where
   -- what the export promises: its answer r, the ids and the slots that it left

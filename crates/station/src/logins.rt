@@ -4,8 +4,8 @@ ghost use Rattle.station.specs.Answer.{answers, answer_of, slots_of};
 ghost use Rattle.station.specs.Logins.{byte_slot, part_slots, login_slots, login_call, ids_left, database_call};
 
 use crate::slots::{answered, answered_part, flag, refused};
-use login::{Answer, Byte, Login, Text};
-use refusals::BUFFER_TOO_SHORT;
+use login::Login;
+use refusals::Refusal;
 use wire::Part;
 
 // The slots of a login.
@@ -27,11 +27,11 @@ pub extern "C" fn station_parse_login7(body: &[u8], ids: &mut [u8], out: &mut [u
     ensures out_after { out.new ≡ slots_of (login_call body.now (length ids.old)) out.old }
 {
     if out.len() < LOGIN_SLOTS {
-        return refused(BUFFER_TOO_SHORT);
+        return refused(Refusal::BufferTooShort.number());
     }
     match login::parse_login7(body, ids) {
-        Answer::Read { login, ids: count } => tell_login(login, count, out),
-        Answer::Refused(number) => refused(number),
+        Ok(read) => tell_login(read.login, read.ids, out),
+        Err(refusal) => refused(refusal.number()),
     }
 }
 
@@ -40,21 +40,15 @@ fn tell_login(login: Login, count: usize, out: &mut [u64]) -> i64
     ensures value { result ≡ answer_of (answers count (login_slots login)) out.old }
     ensures out_after { out.new ≡ slots_of (answers count (login_slots login)) out.old }
 {
-    let token = login.access_token_bytes;
-    let server = login.server_name;
-    let agent = login.user_agent;
-    let database = login.database;
-    let workflow = login.fedauth_workflow;
-    let version = login.data_classification_version;
-    let token = part(token);
-    let server = part(server);
-    let agent = part(agent);
-    let database = part(database);
+    let token = part(login.access_token_bytes);
+    let server = part(login.server_name);
+    let agent = part(login.user_agent);
+    let database = part(login.database);
     let values = [
         flag(login.has_fedauth),
         login.fedauth_library as u64,
-        byte(workflow),
-        byte(version),
+        byte(login.fedauth_workflow),
+        byte(login.data_classification_version),
         flag(login.session),
         token.start as u64,
         token.len as u64,
@@ -68,25 +62,19 @@ fn tell_login(login: Login, count: usize, out: &mut [u64]) -> i64
     answered(out, count, &values)
 }
 
-fn byte(value: Byte) -> u64
+fn byte(value: Option<u8>) -> u64
     ensures { result ≡ byte_slot value }
 {
-    match value {
-        Byte::Is(n) => n as u64,
-        Byte::Absent => NO_BYTE,
-    }
+    value.map_or(NO_BYTE, |n| n as u64)
 }
 
-fn part(text: Text) -> Part
+fn part(text: Option<Part>) -> Part
     ensures { result ≡ part_slots text }
 {
-    match text {
-        Text::At(part) => part,
-        Text::Missing => Part {
-            start: NO_START,
-            len: 0,
-        },
-    }
+    text.unwrap_or(Part {
+        start: NO_START,
+        len: 0,
+    })
 }
 
 // The database to open. 0: start and length of the login's own. 1: it has none, and start and length of the fallback.
@@ -96,8 +84,8 @@ pub extern "C" fn station_database(body: &[u8], fallback: &[u8], out: &mut [u64]
     ensures out_after { out.new ≡ slots_of (database_call body.now fallback.now) out.old }
 {
     match login::database_part(body) {
-        Text::At(part) => answered_part(out, 0, part),
-        Text::Missing => answered_part(
+        Some(part) => answered_part(out, 0, part),
+        None => answered_part(
             out,
             1,
             Part {

@@ -4,7 +4,6 @@ ghost use Rattle.station.specs.Answer.{answer_of, slots_of};
 ghost use Rattle.station.specs.Packets.{payload_call};
 
 use crate::slots::refused;
-use payload::joining::Joined;
 
 // The bytes written of the packets' payload, joined at the front of buf.
 #[unsafe(no_mangle)]
@@ -13,7 +12,7 @@ pub extern "C" fn station_payload(packets: &[u8], buf: &mut [u8]) -> i64
     ensures buf_after { buf.new ≡ slots_of (payload_call packets.now) buf.old }
 {
     match payload::joining::join(packets, buf) {
-        Joined::Written(length) => length as i64,
-        Joined::Refused(number) => refused(number),
+        Ok(length) => length as i64,
+        Err(refusal) => refused(refusal.number()),
     }
 }

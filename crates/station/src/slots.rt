@@ -1,8 +1,9 @@
 // How an export ends: with its number and its slots, or with a refusal.
-ghost use Rattle.std.specs.Prelude.{◌≡◌, cond, ◌<◌, ◌^◌};
-ghost use Rattle.station.specs.Answer.{answers, answers_part, refuses, number_of, answer_of, slots_of};
+ghost use Rattle.std.specs.Prelude.{◌≡◌, ℕ, Ok, cond, ◌<◌, ◌^◌};
+ghost use Rattle.refusals.specs.Refused.{numbered};
+ghost use Rattle.station.specs.Answer.{answers, answers_part, refuses, number_of, answer_of, slots_of, built_outcome};
 
-use refusals::BUFFER_TOO_SHORT;
+use refusals::{BUFFER_TOO_SHORT, Refusal};
 use wire::Part;
 
 // The last step of an export that has slots, after all its other refusals: its number, and the values of the first slots.
@@ -36,6 +37,17 @@ pub(crate) fn refused(number: u8) -> i64
     ensures { result ≡ number_of (refuses number) }
 {
     -(number as i64)
+}
+
+// How an export without slots ends: with a count, or with a refusal.
+pub(crate) fn tell(built: Result<usize, Refusal>) -> i64
+    requires { (n : ℕ) → built ≡ Ok n → n < 2 ^ 63 }
+    ensures { result ≡ number_of (built_outcome (numbered built)) }
+{
+    match built {
+        Ok(n) => n as i64,
+        Err(r) => refused(r.number()),
+    }
 }
 
 // The value of a test: 1 or 0.

@@ -4,12 +4,12 @@ use Rattle.station.proofs.Ends.{passed}
 use Rattle.station.specs.Logins.{database_outcome, database_call}
 use Rattle.station.proofs.logins.station_database.Goals as goal
 
-pub returns-in-At : goal.returns-in-At
+pub returns-in-Some : goal.returns-in-Some
 unfolding database_call
-returns-in-At c = let a = c.args in
-    let w = passed a.out.now c.answered_part.type_inv (c.answered_part.ensures.value, c.answered_part.ensures.out_after) (ap (λ x. database_outcome x a.fallback.now) (sym c.in-At.is ∙ c.database_part.ensures)) in record { value = w.0; out_after = w.1 }
+returns-in-Some c = let a = c.args in
+    let w = passed a.out.now c.answered_part.type_inv (c.answered_part.ensures.value, c.answered_part.ensures.out_after) (ap (λ x. database_outcome x a.fallback.now) (sym c.in-Some.is ∙ c.database_part.ensures)) in record { value = w.0; out_after = w.1 }
 
-pub returns-in-Missing : goal.returns-in-Missing
+pub returns-in-None : goal.returns-in-None
 unfolding database_call
-returns-in-Missing c = let a = c.args in
-    let w = passed a.out.now c.answered_part-in-Missing.type_inv (c.answered_part-in-Missing.ensures.value, c.answered_part-in-Missing.ensures.out_after) (ap (λ x. database_outcome x a.fallback.now) (sym c.in-Missing.is ∙ c.database_part.ensures)) in record { value = w.0; out_after = w.1 }
+returns-in-None c = let a = c.args in
+    let w = passed a.out.now c.answered_part-in-None.type_inv (c.answered_part-in-None.ensures.value, c.answered_part-in-None.ensures.out_after) (ap (λ x. database_outcome x a.fallback.now) (sym c.in-None.is ∙ c.database_part.ensures)) in record { value = w.0; out_after = w.1 }
