@@ -20,7 +20,7 @@ loop-from-init c = let a = c.args in
 pub loop-from-preserved : goal.loop-from-preserved
 loop-from-preserved c = let a = c.args in
     let part = c.put_part-at.ensures in
-    let more = left-turn (a.size - 8) a.payload.now c.loop-from.from c.loop-from.number c.least.result (omega arith) (omega arith) (omega arith) in (
+    let more = left-turn (a.size - 8) a.payload.now c.loop-from.from c.loop-from.number c.min.result (omega arith) (omega arith) (omega arith) in (
       omega arith,
       omega arith,
       search rules,
