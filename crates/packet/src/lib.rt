@@ -63,7 +63,7 @@ impl TryFrom<u8> for PacketType {
     }
 }
 
-// The status byte, kept with all its bits, of which two are tested.
+// The status byte, kept with all its bits, of which two are tested; functions without self make and test it (document 01's form).
 #[derive(Clone, Copy, Debug, PartialEq, Eq)]
 pub struct PacketStatus(pub u8);
 
@@ -302,13 +302,9 @@ fn put_parts(w: &mut Writer, room: usize, payload: &[u8])
     requires { (w.old.at ≤ length w.old.buf.now) × (1 ≤ room) × (room < 65528) }
     ensures { Puts w.old (packets_of (8 + room) payload.now) w.new }
 {
-    let mut from: usize = 0;
-    let mut number = FIRST_NUMBER;
-    while from < payload.len() {
-        let left = payload.len() - from;
-        let end = from + left.min(room);
-        put_part(w, number, left <= room, &payload[from..end]);
-        from = end;
-        number += 1;
+    let mut left = payload.len();
+    for (i, part) in payload.chunks(room).enumerate() {
+        left -= part.len();
+        put_part(w, FIRST_NUMBER + i, left == 0, part);
     }
 }
