@@ -8,7 +8,7 @@ use native.Mathlib.Omega.{arith}
 use lib.Dec.{eqb}
 use lib.ListN.{length}
 use borrow.Author.Tests.{lt-ltb, le-ltb, eqb-true}
-use Rattle.wire.specs.Over.{Wrote, overwrite}
+use Rattle.wire.specs.Over.{overwrite}
 use Rattle.packet.specs.Cut.{packets_of}
 use Rattle.packet.specs.Agreed.{is_packet_size, packet_count, packets_length, cut_buffer}
 use Rattle.packet.proofs.Sizes.{length-packet}
@@ -39,11 +39,11 @@ module _ (size : ℕ) (p buf : List ℕ) (some : 9 ≤ size) (total n : ℕ) (t 
   unfolding packets_length
   at-is = rw (← e) (omega arith)
 
-  pub cut : {k m : List ℕ} {to : ℕ} → total ≤ length buf → Wrote buf (total - n) p k to → m ≡ cut_buffer size n k
+  pub cut : {k m : List ℕ} → total ≤ length buf → k ≡ overwrite buf (total - n) p → m ≡ cut_buffer size n k
       → (Ok total ≡ fitted (Ok (length (packets_of size p))) (length buf)) × (m ≡ leaves (fitted (Ok (length (packets_of size p))) (length buf)) (packets_of size p) buf)
   cut {k} {m} h w b =
       let f = le-ltb (length buf) total h in
-      let there : k ≡ overwrite buf (packet_count size (length p) * 8) p = w.0 ∙ ap (λ (i : ℕ). overwrite buf i p) at-is in
+      let there : k ≡ overwrite buf (packet_count size (length p) * 8) p = w ∙ ap (λ (i : ℕ). overwrite buf i p) at-is in
       let same : packets_length size (length p) ≡ total = rw (← e) (sym t) in
       let left : m ≡ overwrite buf 0 (packets_of size p) = rw (e, there) at b ∙ cut-written size p buf some (rw same h) in
       (rw (long, f), rw (long, f) left)

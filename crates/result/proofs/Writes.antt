@@ -6,9 +6,10 @@ use native.Mathlib.Nat.{add-sub_cancel_left}
 use lib.ListN.{length, take, drop}
 use borrow.Author.Tests.{eq-eqb}
 use Rattle.wire.specs.Le.{le}
-use Rattle.wire.specs.Over.{Wrote}
+use Rattle.wire.specs.Puts.{Puts}
+use Rattle.wire.specs.declared.writer.Writer.{Writer}
 use Rattle.wire.specs.Fields.{word, raw, flat}
-use Rattle.wire.proofs.Over.{then, wrote_as, wrote_nothing}
+use Rattle.wire.proofs.Puts.{then, put_as, put_nothing}
 use Rattle.token.specs.Tokens.{Token, metadata, cell, EncodedCell, long, joined, token_bytes, put_chunks}
 use Rattle.script.specs.declared.Found.TheVariants.{Record, Cut, End}
 use Rattle.script.specs.Records.{records, record_at}
@@ -20,11 +21,11 @@ use Rattle.emission.specs.Inner.{GoesOn}
 use Rattle.emission.proofs.Sizes.{bytes-none, bytes-told, bytes-classified, bytes-cat}
 
 -- one token, and two
-pub put_one : (t : Token EncodedCell) {l m : List ℕ} {at to : ℕ} → Wrote l at (token_bytes t) m to → Wrote l at (bytes_in (token_piece t ∷ [])) m to
-put_one t w = wrote_as w (sym (bytes-told t [] ∙ rw (bytes-none, append-nil (token_bytes t))))
+pub put_one : (t : Token EncodedCell) {l m : Writer} → Puts l (token_bytes t) m → Puts l (bytes_in (token_piece t ∷ [])) m
+put_one t w = put_as w (sym (bytes-told t [] ∙ rw (bytes-none, append-nil (token_bytes t))))
 
-pub put_two : (t u : Token EncodedCell) {l m n : List ℕ} {at to end : ℕ} → Wrote l at (token_bytes t) m to → Wrote m to (token_bytes u) n end → Wrote l at (bytes_in (token_piece t ∷ token_piece u ∷ [])) n end
-put_two t u w v = wrote_as (then w (put_one u v)) (sym (bytes-told t (token_piece u ∷ [])))
+pub put_two : (t u : Token EncodedCell) {l m n : Writer} → Puts l (token_bytes t) m → Puts m (token_bytes u) n → Puts l (bytes_in (token_piece t ∷ token_piece u ∷ [])) n
+put_two t u w v = put_as (then w (put_one u v)) (sym (bytes-told t (token_piece u ∷ [])))
 
 -- ---- columns and chunks
 
@@ -67,29 +68,29 @@ module _ (s : List ℕ) (at : ℕ) where
 -- ---- sets and cells
 
 -- the beginning of a set
-pub put-begins : (class : List ℕ) (cs : List (List ℕ)) {l m n k : List ℕ} {at a b to : ℕ} → Wrote l at (token_bytes (metadata (length cs))) m a → Wrote m a (bytes_in (column_pieces cs)) n b → Wrote n b class k to
-    → Wrote l at (bytes_in (token_piece (metadata (length cs)) ∷ column_pieces cs ++ (classification_piece class ∷ []))) k to
+pub put-begins : (class : List ℕ) (cs : List (List ℕ)) {l m n k : Writer} → Puts l (token_bytes (metadata (length cs))) m → Puts m (bytes_in (column_pieces cs)) n → Puts n class k
+    → Puts l (bytes_in (token_piece (metadata (length cs)) ∷ column_pieces cs ++ (classification_piece class ∷ []))) k
 put-begins class cs w v u =
-    wrote_as (then w (then v u))
+    put_as (then w (then v u))
     (sym (bytes-told (metadata (length cs)) (column_pieces cs ++ (classification_piece class ∷ []))
     ∙ rw (bytes-cat (column_pieces cs) (classification_piece class ∷ []), bytes-classified class [], bytes-none, append-nil class)))
 
 -- a cell in chunks
-pub put-long : (cs : List (List ℕ)) {l m n : List ℕ} {at a to : ℕ} → Wrote l at (le 8 (length (joined cs))) m a → Wrote m a (flat (put_chunks cs [])) n to → Wrote l at (token_bytes (cell (long cs))) n to
+pub put-long : (cs : List (List ℕ)) {l m n : Writer} → Puts l (le 8 (length (joined cs))) m → Puts m (flat (put_chunks cs [])) n → Puts l (token_bytes (cell (long cs))) n
 unfolding token_bytes flat
 put-long cs w v = then w v
 
 -- a token before pieces
-pub put-before : (t : Token EncodedCell) (ps : List Piece) {l m n : List ℕ} {at to end : ℕ} → Wrote l at (token_bytes t) m to → Wrote m to (bytes_in ps) n end → Wrote l at (bytes_in (token_piece t ∷ ps)) n end
-put-before t ps w v = wrote_as (then w v) (sym (bytes-told t ps))
+pub put-before : (t : Token EncodedCell) (ps : List Piece) {l m n : Writer} → Puts l (token_bytes t) m → Puts m (bytes_in ps) n → Puts l (bytes_in (token_piece t ∷ ps)) n
+put-before t ps w v = put_as (then w v) (sym (bytes-told t ps))
 
 -- pieces before pieces
-pub put-pieces : (ps qs : List Piece) {l m n : List ℕ} {at to end : ℕ} → Wrote l at (bytes_in ps) m to → Wrote m to (bytes_in qs) n end → Wrote l at (bytes_in (ps ++ qs)) n end
-put-pieces ps qs w v = wrote_as (then w v) (sym (bytes-cat ps qs))
+pub put-pieces : (ps qs : List Piece) {l m n : Writer} → Puts l (bytes_in ps) m → Puts m (bytes_in qs) n → Puts l (bytes_in (ps ++ qs)) n
+put-pieces ps qs w v = put_as (then w v) (sym (bytes-cat ps qs))
 
 -- no pieces
-pub put-none : (m : List ℕ) (to : ℕ) → to ≤ length m → Wrote m to (bytes_in []) m to
-put-none m to h = wrote_as (wrote_nothing m to h) (sym bytes-none)
+pub put-none : (m : Writer) → m.at ≤ length m.buf.now → Puts m (bytes_in []) m
+put-none m h = put_as (put_nothing m h) (sym bytes-none)
 
 -- ---- the records from a place on
 

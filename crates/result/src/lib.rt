@@ -6,7 +6,8 @@ ghost use Rattle.std.specs.Prelude.{◌≡◌, Ok, [], ◌+◌, ◌^◌, ◌≤�
 ghost use Rattle.std.proofs.Math.Option.{some};
 ghost use Rattle.refusals.specs.Refused.{numbered};
 ghost use Rattle.wire.specs.Fields.{flat};
-ghost use Rattle.wire.specs.Over.{overwrite, PlaceAfter};
+ghost use Rattle.wire.specs.Over.{overwrite};
+ghost use Rattle.wire.specs.Puts.{Puts};
 ghost use Rattle.packet.specs.Cut.{packets_of};
 ghost use Rattle.script.specs.Records.{records};
 ghost use Rattle.script.specs.Runs.{ahead};
@@ -14,13 +15,13 @@ ghost use Rattle.token.specs.Tokens.{cell, long, token_bytes, put_chunks};
 ghost use Rattle.emission.specs.Emission.{info_token, value_cell, bytes_in, column_piece, column_pieces, cell_pieces};
 ghost use Rattle.emission.specs.Walk.{begin_pieces, pieces_of, rows_after, emit_from, lead_pieces, sets_of, walked};
 ghost use Rattle.emission.specs.Runs.{error_found};
+ghost use Rattle.emission.specs.Inner.{GoesOn};
 ghost use Rattle.result.specs.Built.{room_of, room_at, fitted, leaves, built_of, buffer_of, built_in_packets, buffer_in_packets};
-ghost use Rattle.result.specs.Inner.{Put};
 
 use refusals::Refusal;
 use script::Found;
 use token::{ColumnValue, Message};
-use wire::Part;
+use wire::{Part, Writer};
 
 // The status of the DONE that ends a set: its row count is valid (0010), and where a set follows there is more (0001).
 const MORE: u16 = 0x0011;
@@ -32,30 +33,21 @@ const LEADING: u16 = 0x0003;
 
 const TERMINAL: u16 = 0x0002;
 
-// The writing pass: the place after what was written, and the place where the walk goes on.
-#[derive(Clone, Copy)]
-struct Placed {
-    place: usize,
-    next: usize,
-}
-
-fn put_column(buf: &mut [u8], at: usize, p: &[u8]) -> usize
-    requires { at ≤ length buf.old }
-    ensures buf_after { buf.new ≡ overwrite buf.old at (bytes_in (column_piece p.now)) }
-    ensures place_after { PlaceAfter buf.old at (bytes_in (column_piece p.now)) result }
+fn put_column(w: &mut Writer, p: &[u8])
+    requires { w.old.at ≤ length w.old.buf.now }
+    ensures { Puts w.old (bytes_in (column_piece p.now)) w.new }
 {
     match token::data_type_of(wire::get_u8(p, 0)) {
         Some(t) => {
             let collation = emission::collation(t, p);
-            token::put_column(buf, at, t, collation, script::rest_after(p, 6))
+            token::put_column(w, t, collation, script::rest_after(p, 6));
         }
-        None => at,
+        None => {}
     }
 }
 
-fn put_info(buf: &mut [u8], at: usize, p: &[u8]) -> usize
-    ensures buf_after { buf.new ≡ overwrite buf.old at (token_bytes (info_token p.now)) }
-    ensures place_after { PlaceAfter buf.old at (token_bytes (info_token p.now)) result }
+fn put_info(w: &mut Writer, p: &[u8])
+    ensures { Puts w.old (token_bytes (info_token p.now)) w.new }
 {
     let info = Message {
         kind: token::INFO,
@@ -67,13 +59,12 @@ fn put_info(buf: &mut [u8], at: usize, p: &[u8]) -> usize
         procedure: script::info_procedure(p),
         line: wire::get_u32_le(p, 6),
     };
-    token::put_message(buf, at, &info)
+    token::put_message(w, &info);
 }
 
 // An error and its DONE.
-fn put_error(buf: &mut [u8], at: usize, p: &[u8], status: u16) -> usize
-    ensures buf_after { buf.new ≡ overwrite buf.old at (bytes_in (lead_pieces status (some p.now))) }
-    ensures place_after { PlaceAfter buf.old at (bytes_in (lead_pieces status (some p.now))) result }
+fn put_error(w: &mut Writer, p: &[u8], status: u16)
+    ensures { Puts w.old (bytes_in (lead_pieces status (some p.now))) w.new }
 {
     let none = &p[..0];
     let error = Message {
@@ -86,179 +77,162 @@ fn put_error(buf: &mut [u8], at: usize, p: &[u8], status: u16) -> usize
         procedure: none,
         line: 1,
     };
-    let next = token::put_message(buf, at, &error);
-    token::put_done(buf, next, status, 0)
+    token::put_message(w, &error);
+    token::put_done(w, status, 0);
 }
 
 // The columns that stand next in s.
-fn put_columns(buf: &mut [u8], at: usize, s: &[u8], from: usize) -> usize
-    requires { (at ≤ length buf.old) × (from ≤ length s.now) }
-    ensures buf_after { buf.new ≡ overwrite buf.old at (bytes_in (column_pieces (ahead 2 (records (drop from s.now))))) }
-    ensures place_after { PlaceAfter buf.old at (bytes_in (column_pieces (ahead 2 (records (drop from s.now))))) result }
+fn put_columns(w: &mut Writer, s: &[u8], from: usize)
+    requires { (w.old.at ≤ length w.old.buf.now) × (from ≤ length s.now) }
+    ensures { Puts w.old (bytes_in (column_pieces (ahead 2 (records (drop from s.now))))) w.new }
 {
-    let mut to = at;
     let mut place = from;
     loop {
         match script::record_at(s, place) {
             Found::Record { kind, start, len } => {
                 if kind != script::COLUMN {
-                    return to;
+                    return;
                 }
                 let next = start + len;
-                to = put_column(buf, to, &s[start..next]);
+                put_column(w, &s[start..next]);
                 place = next;
             }
             Found::Cut | Found::End => {
-                return to;
+                return;
             }
         }
     }
 }
 
 // The chunks that stand next in s, and the zero length after them.
-fn put_chunks(buf: &mut [u8], at: usize, s: &[u8], from: usize) -> usize
+fn put_chunks(w: &mut Writer, s: &[u8], from: usize)
     requires { from ≤ length s.now }
-    ensures buf_after { buf.new ≡ overwrite buf.old at (flat (put_chunks (ahead 6 (records (drop from s.now))) [])) }
-    ensures place_after { PlaceAfter buf.old at (flat (put_chunks (ahead 6 (records (drop from s.now))) [])) result }
+    ensures { Puts w.old (flat (put_chunks (ahead 6 (records (drop from s.now))) [])) w.new }
 {
-    let mut to = at;
     let mut place = from;
     loop {
         match script::record_at(s, place) {
             Found::Record { kind, start, len } => {
                 if kind != script::CHUNK {
-                    return wire::put_u32_le(buf, to, 0);
+                    w.put_u32_le(0);
+                    return;
                 }
                 let next = start + len;
-                to = token::put_chunk(buf, to, &s[start..next]);
+                token::put_chunk(w, &s[start..next]);
                 place = next;
             }
             Found::Cut | Found::End => {
-                return wire::put_u32_le(buf, to, 0);
+                w.put_u32_le(0);
+                return;
             }
         }
     }
 }
 
-// The beginning of a set: COLMETADATA, columns, classification.
-fn put_set(buf: &mut [u8], at: usize, s: &[u8], classification: &[u8], next: usize) -> Placed
+// The beginning of a set: COLMETADATA, columns, classification. This writer and those below answer the place where the walk
+// over the records goes on.
+fn put_set(w: &mut Writer, s: &[u8], classification: &[u8], next: usize) -> usize
     requires { next ≤ length s.now }
-    ensures { Put buf.old at (bytes_in (begin_pieces classification.now (records (drop next s.now)))) buf.new s.now next result }
+    ensures puts { Puts w.old (bytes_in (begin_pieces classification.now (records (drop next s.now)))) w.new }
+    ensures goes { GoesOn s.now next result }
 {
     let run = emission::run_at(s, next, script::COLUMN);
-    let a = token::put_colmetadata(buf, at, run.count);
-    let b = put_columns(buf, a, s, next);
-    let place = wire::put_slice(buf, b, classification);
-    Placed {
-        place,
-        next: run.next,
-    }
+    token::put_colmetadata(w, run.count);
+    put_columns(w, s, next);
+    w.put_slice(classification);
+    run.next
 }
 
 // A cell in chunks: their total, the chunks, a zero length.
-fn put_chunked(buf: &mut [u8], at: usize, s: &[u8], next: usize) -> Placed
+fn put_chunked(w: &mut Writer, s: &[u8], next: usize) -> usize
     requires { next ≤ length s.now }
-    ensures { Put buf.old at (token_bytes (cell (long (ahead 6 (records (drop next s.now)))))) buf.new s.now next result }
+    ensures puts { Puts w.old (token_bytes (cell (long (ahead 6 (records (drop next s.now)))))) w.new }
+    ensures goes { GoesOn s.now next result }
 {
     let run = emission::run_at(s, next, script::CHUNK);
-    let a = wire::put_u64_le(buf, at, run.bytes as u64);
-    let place = put_chunks(buf, a, s, next);
-    Placed {
-        place,
-        next: run.next,
-    }
+    w.put_u64_le(run.bytes as u64);
+    put_chunks(w, s, next);
+    run.next
 }
 
 // A cell of a value, with its chunks where it has them.
-fn put_value(
-    buf: &mut [u8],
-    at: usize,
-    s: &[u8],
-    value: ColumnValue,
-    p: &[u8],
-    next: usize,
-) -> Placed
+fn put_value(w: &mut Writer, s: &[u8], value: ColumnValue, p: &[u8], next: usize) -> usize
     requires { next ≤ length s.now }
-    ensures { Put buf.old at (token_bytes (cell (value_cell value (drop 1 p.now) (ahead 6 (records (drop next s.now)))))) buf.new s.now next result }
+    ensures puts { Puts w.old (token_bytes (cell (value_cell value (drop 1 p.now) (ahead 6 (records (drop next s.now)))))) w.new }
+    ensures goes { GoesOn s.now next result }
 {
     match value {
-        ColumnValue::TinyInt => Placed {
-            place: token::put_tinyint(buf, at, wire::get_u8(p, 1)),
-            next,
-        },
-        ColumnValue::SmallInt => Placed {
-            place: token::put_smallint(buf, at, wire::get_u16_le(p, 1)),
-            next,
-        },
-        ColumnValue::Int => Placed {
-            place: token::put_int(buf, at, wire::get_u32_le(p, 1)),
-            next,
-        },
-        ColumnValue::BigInt => Placed {
-            place: token::put_bigint(buf, at, wire::get_u64_le(p, 1)),
-            next,
-        },
-        ColumnValue::NVarChar => Placed {
-            place: token::put_nvarchar(buf, at, script::rest_after(p, 1)),
-            next,
-        },
-        ColumnValue::NVarCharMax | ColumnValue::VarCharMax | ColumnValue::VarBinaryMax => {
-            put_chunked(buf, at, s, next)
+        ColumnValue::TinyInt => {
+            token::put_tinyint(w, wire::get_u8(p, 1));
+            next
         }
-        ColumnValue::NVarCharMaxNull => Placed {
-            place: token::put_plp_null(buf, at),
-            next,
-        },
-        ColumnValue::Null => Placed {
-            place: token::put_null(buf, at),
-            next,
-        },
+        ColumnValue::SmallInt => {
+            token::put_smallint(w, wire::get_u16_le(p, 1));
+            next
+        }
+        ColumnValue::Int => {
+            token::put_int(w, wire::get_u32_le(p, 1));
+            next
+        }
+        ColumnValue::BigInt => {
+            token::put_bigint(w, wire::get_u64_le(p, 1));
+            next
+        }
+        ColumnValue::NVarChar => {
+            token::put_nvarchar(w, script::rest_after(p, 1));
+            next
+        }
+        ColumnValue::NVarCharMax | ColumnValue::VarCharMax | ColumnValue::VarBinaryMax => {
+            put_chunked(w, s, next)
+        }
+        ColumnValue::NVarCharMaxNull => {
+            token::put_plp_null(w);
+            next
+        }
+        ColumnValue::Null => {
+            token::put_null(w);
+            next
+        }
     }
 }
 
 // A cell.
-fn put_cell(buf: &mut [u8], at: usize, s: &[u8], p: &[u8], next: usize) -> Placed
-    requires { (at ≤ length buf.old) × (next ≤ length s.now) }
-    ensures { Put buf.old at (bytes_in (cell_pieces p.now (ahead 6 (records (drop next s.now))))) buf.new s.now next result }
+fn put_cell(w: &mut Writer, s: &[u8], p: &[u8], next: usize) -> usize
+    requires { (w.old.at ≤ length w.old.buf.now) × (next ≤ length s.now) }
+    ensures puts { Puts w.old (bytes_in (cell_pieces p.now (ahead 6 (records (drop next s.now))))) w.new }
+    ensures goes { GoesOn s.now next result }
 {
     match token::column_value_of(wire::get_u8(p, 0)) {
-        Some(value) => put_value(buf, at, s, value, p, next),
-        None => Placed { place: at, next },
+        Some(value) => put_value(w, s, value, p, next),
+        None => next,
     }
 }
 
 // What a record after the first set's emits; rows are those of the set so far.
-fn put_turn(
-    buf: &mut [u8],
-    at: usize,
-    s: &[u8],
-    kind: u16,
-    p: &[u8],
-    next: usize,
-    rows: u64,
-) -> Placed
-    requires { (at ≤ length buf.old) × (next ≤ length s.now) }
-    ensures { Put buf.old at (bytes_in (pieces_of rows kind p.now (records (drop next s.now)))) buf.new s.now next result }
+fn put_turn(w: &mut Writer, s: &[u8], kind: u16, p: &[u8], next: usize, rows: u64) -> usize
+    requires { (w.old.at ≤ length w.old.buf.now) × (next ≤ length s.now) }
+    ensures puts { Puts w.old (bytes_in (pieces_of rows kind p.now (records (drop next s.now)))) w.new }
+    ensures goes { GoesOn s.now next result }
 {
     match kind {
         script::SET => {
-            let a = token::put_done(buf, at, MORE, rows);
-            put_set(buf, a, s, p, next)
+            token::put_done(w, MORE, rows);
+            put_set(w, s, p, next)
         }
-        script::INFO => Placed {
-            place: put_info(buf, at, p),
-            next,
-        },
-        script::TRAILING_INFO => Placed {
-            place: put_info(buf, at, p),
-            next,
-        },
-        script::ROW => Placed {
-            place: token::put_row(buf, at),
-            next,
-        },
-        script::CELL => put_cell(buf, at, s, p, next),
-        _ => Placed { place: at, next },
+        script::INFO => {
+            put_info(w, p);
+            next
+        }
+        script::TRAILING_INFO => {
+            put_info(w, p);
+            next
+        }
+        script::ROW => {
+            token::put_row(w);
+            next
+        }
+        script::CELL => put_cell(w, s, p, next),
+        _ => next,
     }
 }
 
@@ -275,71 +249,58 @@ fn rows_after(rows: u64, kind: u16) -> u64
 }
 
 // What the records from a place on emit, and the last set's DONE.
-fn put_records(buf: &mut [u8], at: usize, s: &[u8], from: usize) -> usize
-    requires { (at ≤ length buf.old) × (from ≤ length s.now) }
-    ensures buf_after { buf.new ≡ overwrite buf.old at (bytes_in (emit_from 0 (records (drop from s.now)))) }
-    ensures place_after { PlaceAfter buf.old at (bytes_in (emit_from 0 (records (drop from s.now)))) result }
+fn put_records(w: &mut Writer, s: &[u8], from: usize)
+    requires { (w.old.at ≤ length w.old.buf.now) × (from ≤ length s.now) }
+    ensures { Puts w.old (bytes_in (emit_from 0 (records (drop from s.now)))) w.new }
 {
-    let mut to = at;
     let mut place = from;
     let mut rows: u64 = 0;
     loop {
         match script::record_at(s, place) {
             Found::Record { kind, start, len } => {
                 let next = start + len;
-                let put = put_turn(buf, to, s, kind, &s[start..next], next, rows);
+                place = put_turn(w, s, kind, &s[start..next], next, rows);
                 rows = rows_after(rows, kind);
-                to = put.place;
-                place = put.next;
             }
             Found::Cut | Found::End => {
-                return token::put_done(buf, to, LAST, rows);
+                token::put_done(w, LAST, rows);
+                return;
             }
         }
     }
 }
 
 // The error of the first set, where it has one, and its DONE.
-fn put_lead(buf: &mut [u8], at: usize, s: &[u8], error: Option<Part>, status: u16) -> usize
-    requires { at ≤ length buf.old }
-    ensures buf_after { buf.new ≡ overwrite buf.old at (bytes_in (lead_pieces status (error_found s.now error))) }
-    ensures place_after { PlaceAfter buf.old at (bytes_in (lead_pieces status (error_found s.now error))) result }
+fn put_lead(w: &mut Writer, s: &[u8], error: Option<Part>, status: u16)
+    requires { w.old.at ≤ length w.old.buf.now }
+    ensures { Puts w.old (bytes_in (lead_pieces status (error_found s.now error))) w.new }
 {
     match error {
-        Some(part) => put_error(buf, at, wire::part_of(s, part), status),
-        None => at,
+        Some(part) => put_error(w, wire::part_of(s, part), status),
+        None => {}
     }
 }
 
 // The sets of a script whose first set has the classification and goes on at next.
-fn put_sets(buf: &mut [u8], at: usize, s: &[u8], classification: &[u8], next: usize) -> usize
-    requires { (at ≤ length buf.old) × (next ≤ length s.now) }
-    ensures buf_after { buf.new ≡ overwrite buf.old at (bytes_in (sets_of classification.now (records (drop next s.now)))) }
-    ensures place_after { PlaceAfter buf.old at (bytes_in (sets_of classification.now (records (drop next s.now)))) result }
+fn put_sets(w: &mut Writer, s: &[u8], classification: &[u8], next: usize)
+    requires { (w.old.at ≤ length w.old.buf.now) × (next ≤ length s.now) }
+    ensures { Puts w.old (bytes_in (sets_of classification.now (records (drop next s.now)))) w.new }
 {
     match emission::error_in(s, next, script::TERMINAL_ERROR) {
-        Some(part) => put_error(buf, at, wire::part_of(s, part), TERMINAL),
+        Some(part) => put_error(w, wire::part_of(s, part), TERMINAL),
         None => {
-            let a = put_lead(
-                buf,
-                at,
-                s,
-                emission::error_in(s, next, script::LEADING_ERROR),
-                LEADING,
-            );
-            let set = put_set(buf, a, s, classification, next);
-            let b = set.place;
-            let from = set.next;
-            put_records(buf, b, s, from)
+            let error = emission::error_in(s, next, script::LEADING_ERROR);
+            put_lead(w, s, error, LEADING);
+            let from = put_set(w, s, classification, next);
+            put_records(w, s, from);
         }
     }
 }
 
 // What a script emits.
-fn put_pieces(buf: &mut [u8], at: usize, s: &[u8]) -> usize
-    requires { at ≤ length buf.old }
-    ensures buf_after { buf.new ≡ overwrite buf.old at (bytes_in (walked s.now)) }
-    ensures place_after { PlaceAfter buf.old at (bytes_in (walked s.now)) result }
+fn put_pieces(w: &mut Writer, s: &[u8])
+    requires { w.old.at ≤ length w.old.buf.now }
+    ensures { Puts w.old (bytes_in (walked s.now)) w.new }
 {
     match script::record_at(s, 0) {
         Found::Record {
@@ -348,9 +309,9 @@ fn put_pieces(buf: &mut [u8], at: usize, s: &[u8]) -> usize
             len,
         } => {
             let next = start + len;
-            put_sets(buf, at, s, &s[start..next], next)
+            put_sets(w, s, &s[start..next], next);
         }
-        Found::Cut | Found::End => at,
+        Found::Cut | Found::End => {}
     }
 }
 
@@ -363,8 +324,9 @@ pub fn build_query_results(script: &[u8], buf: &mut [u8]) -> Result<usize, Refus
     if buf.len() < length {
         return Err(Refusal::BufferTooShort);
     }
-    let at = packet::write_reply_header(buf, length as u16);
-    put_pieces(buf, at, script);
+    let mut w = Writer { buf, at: 0 };
+    packet::write_reply_header(&mut w, length as u16);
+    put_pieces(&mut w, script);
     Ok(length)
 }
 
@@ -393,6 +355,15 @@ pub fn build_query_result_with_extras(script: &[u8], buf: &mut [u8]) -> Result<u
     build_query_results(script, buf)
 }
 
+// The payload that a script emits, at a place of the buffer.
+fn put_payload(script: &[u8], at: usize, buf: &mut [u8])
+    requires { at ≤ length buf.old }
+    ensures { buf.new ≡ overwrite buf.old at (bytes_in (walked script.now)) }
+{
+    let mut w = Writer { buf, at };
+    put_pieces(&mut w, script);
+}
+
 // The payload of n bytes that a script emits, in packets of a size: it is written so that it ends where the packets will end,
 // and is cut where it stands.
 fn put_in_packets(script: &[u8], size: u16, n: u16, buf: &mut [u8]) -> Result<usize, Refusal>
@@ -404,7 +375,7 @@ fn put_in_packets(script: &[u8], size: u16, n: u16, buf: &mut [u8]) -> Result<us
     if buf.len() < total {
         return Err(Refusal::BufferTooShort);
     }
-    put_pieces(buf, total - n as usize, script);
+    put_payload(script, total - n as usize, buf);
     // The packets have room, so that it is cut.
     packet::cut_in_place(buf, size, n);
     Ok(total)

@@ -2,7 +2,7 @@
 use mathlib.Core.Path.{sym}
 use borrow.Author.Rules.{rules}
 use Rattle.std.proofs.lemmas.Result.{err_from_is_err_and}
-use Rattle.wire.proofs.Over.{wrote, place_in}
+use Rattle.wire.proofs.Puts.{place_in}
 use Rattle.result.proofs.Builds.{short-answer, short-buffer, refused-answer, refused-buffer, written-answer, written-buffer, fits}
 use Rattle.result.proofs.build_query_results.Goals as goal
 
@@ -15,7 +15,7 @@ pub overflow_cast-length : goal.overflow_cast-length
 overflow_cast-length c = let b = fits c.args.script.now c.args.buf.now _ (sym c.in_ok-length.ensures) in search rules
 
 pub put_pieces-requires : goal.put_pieces-requires
-put_pieces-requires c = place_in (wrote c.write_reply_header-at.ensures.buf_after c.write_reply_header-at.ensures.place_after)
+put_pieces-requires c = place_in c.write_reply_header.ensures
 
 pub returns-in_err-length : goal.returns-in_err-length
 returns-in_err-length c = let a = c.args in
@@ -26,4 +26,5 @@ returns-in_err-length c = let a = c.args in
 pub returns : goal.returns
 returns c = let a = c.args in
     let e = sym c.in_ok-length.ensures in
-    record { value = written-answer a.script.now a.buf.now _ e c.if-buf-length.false; buf_after = written-buffer a.script.now a.buf.now _ e c.if-buf-length.false (wrote c.write_reply_header-at.ensures.buf_after c.write_reply_header-at.ensures.place_after) (wrote c.put_pieces.ensures.buf_after c.put_pieces.ensures.place_after) }
+    let b = written-buffer a.script.now a.buf.now _ e c.if-buf-length.false c.write_reply_header.ensures.wrote c.put_pieces.ensures.wrote in
+    record { value = written-answer a.script.now a.buf.now _ e c.if-buf-length.false; buf_after = search (rules, b) }

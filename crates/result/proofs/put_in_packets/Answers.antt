@@ -3,7 +3,6 @@ use native.Mathlib.Omega.{arith}
 use Rattle.emission.specs.Emission.{bytes_in}
 use Rattle.emission.specs.Walk.{walked}
 use Rattle.result.proofs.InPackets.{short, above, cut}
-use Rattle.wire.proofs.Over.{wrote}
 use Rattle.result.proofs.put_in_packets.Goals as goal
 
 pub returns-then-buf-total : goal.returns-then-buf-total
@@ -14,4 +13,4 @@ overflow_sub-total c = above c.args.size (bytes_in (walked c.args.script.now)) c
 
 pub returns : goal.returns
 returns c = let w = cut c.args.size (bytes_in (walked c.args.script.now)) c.args.buf.now c.requires.0 _ c.args.n c.packets_length-total.ensures c.requires.1
-    (omega arith) (wrote c.put_pieces.ensures.buf_after c.put_pieces.ensures.place_after) c.cut_in_place.ensures.buf_after in record { value = w.0; buf_after = w.1 }
+    (omega arith) c.put_payload.ensures c.cut_in_place.ensures.buf_after in record { value = w.0; buf_after = w.1 }

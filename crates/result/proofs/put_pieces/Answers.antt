@@ -21,9 +21,9 @@ pub put_sets-requires : goal.put_sets-requires
 put_sets-requires c = (c.requires, (Walk.lies c.args.s.now 0 (sym c.record_at.ensures ∙ c.in-Record.is)).1)
 
 pub returns-in-Record : goal.returns-in-Record
-returns-in-Record c = record { buf_after = rw (walked-first c.args.s.now _ c.in-Record.start c.in-Record.len (sym c.record_at.ensures ∙ c.in-Record.is)) c.put_sets.ensures.buf_after; place_after = rw (walked-first c.args.s.now _ c.in-Record.start c.in-Record.len (sym c.record_at.ensures ∙ c.in-Record.is)) c.put_sets.ensures.place_after }
+returns-in-Record c = rw (walked-first c.args.s.now _ c.in-Record.start c.in-Record.len (sym c.record_at.ensures ∙ c.in-Record.is)) c.put_sets.ensures
 
 pub returns-in-Cut : goal.returns-in-Cut
 returns-in-Cut c = let a = c.args in
     let none = stops c.record_at.ensures (opened c.in-Cut.in-Cut-own.keys2) (walked-cut a.s.now) (walked_end a.s.now) in
-    record { buf_after = rw none ((put-none a.buf.now a.at c.requires)).0; place_after = rw none ((put-none a.buf.now a.at c.requires)).1 }
+    rw none (put-none a.w.now c.requires)
