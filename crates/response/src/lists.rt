@@ -48,13 +48,11 @@ impl Listed for Features {
     ghost record_bytes = { λ of k p. feature_bytes p };
 
     fn check(&self, kind: u16, p: &[u8]) -> Result<(), Refusal> {
-        if kind != FEATURE {
-            return Err(Refusal::KindWrong);
+        match kind {
+            FEATURE if p.is_empty() => Err(Refusal::ShapeWrong),
+            FEATURE => Ok(()),
+            _ => Err(Refusal::KindWrong),
         }
-        if p.len() == 0 {
-            return Err(Refusal::ShapeWrong);
-        }
-        Ok(())
     }
 
     fn size(&self, _kind: u16, p: &[u8]) -> usize {
@@ -88,22 +86,14 @@ impl<'a> Listed for Routes<'a> {
     ghost record_bytes = { λ to k p. route_bytes to.host.now to.port k p };
 
     fn check(&self, kind: u16, p: &[u8]) -> Result<(), Refusal> {
-        if kind == PLAIN_ROUTE {
-            if p.len() != 0 {
-                return Err(Refusal::ShapeWrong);
-            }
-            return Ok(());
+        match kind {
+            PLAIN_ROUTE if p.is_empty() => Ok(()),
+            PLAIN_ROUTE => Err(Refusal::ShapeWrong),
+            DATABASE_ROUTE if p.len() % 2 != 0 => Err(Refusal::ShapeWrong),
+            DATABASE_ROUTE if text::is_well_formed(p) => Ok(()),
+            DATABASE_ROUTE => Err(Refusal::TextWrong),
+            _ => Err(Refusal::KindWrong),
         }
-        if kind != DATABASE_ROUTE {
-            return Err(Refusal::KindWrong);
-        }
-        if p.len() % 2 != 0 {
-            return Err(Refusal::ShapeWrong);
-        }
-        if !text::is_well_formed(p) {
-            return Err(Refusal::TextWrong);
-        }
-        Ok(())
     }
 
     fn size(&self, kind: u16, p: &[u8]) -> usize {

@@ -1,16 +1,18 @@
 -- `response::lists::FeaturesListed::check` meets its contract. Assumes nothing.
+use mathlib.Core.Path.{sym}
+use native.Mathlib.Omega.{arith}
 use borrow.Author.Tests.{ne_eqb}
 use Rattle.response.specs.Lists.{feature_fault}
 use Rattle.response.proofs.lists.FeaturesListed.check.Goals as goal
 
-pub returns-then-kind-ne-FEATURE : goal.returns-then-kind-ne-FEATURE
+pub returns-in-19 : goal.returns-in-19
 unfolding feature_fault
-returns-then-kind-ne-FEATURE c = simp (ne_eqb _ _ c.if-kind-ne-FEATURE.true)
+returns-in-19 c = simp (c.in-19.is, sym c.if-is_empty.ensures)
 
-pub returns-then-p-eq0 : goal.returns-then-p-eq0
+pub returns-in-19-2 : goal.returns-in-19-2
 unfolding feature_fault
-returns-then-p-eq0 c = simp (c.if-kind-ne-FEATURE.false, c.if-p-eq0.true)
+returns-in-19-2 c = simp (c.in-19.is, sym c.if-is_empty.ensures)
 
-pub returns : goal.returns
+pub returns-in_default : goal.returns-in_default
 unfolding feature_fault
-returns c = simp (c.if-kind-ne-FEATURE.false, ne_eqb _ _ c.if-p-eq0.false)
+returns-in_default c = simp (ne_eqb c.args.kind 19 (λ q. omega arith))

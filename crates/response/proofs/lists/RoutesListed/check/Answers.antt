@@ -1,29 +1,30 @@
 -- `response::lists::RoutesListed::check` meets its contract. Assumes nothing.
+use mathlib.Core.Path.{sym}
+use native.Mathlib.Omega.{arith}
 use borrow.Author.Tests.{ne_eqb}
-use mathlib.Core.Path.{sym, ◌∙◌}
 use Rattle.response.specs.Lists.{route_fault}
 use Rattle.response.proofs.lists.RoutesListed.check.Goals as goal
 
-pub returns-then-p-ne0 : goal.returns-then-p-ne0
+pub returns-in-17 : goal.returns-in-17
 unfolding route_fault
-returns-then-p-ne0 c = simp (c.if-kind-eq-PLAIN_ROUTE.true, ne_eqb _ _ c.if-p-ne0.true)
+returns-in-17 c = simp (c.in-17.is, sym c.if-is_empty.ensures)
 
-pub returns-then-kind-eq-PLAIN_ROUTE : goal.returns-then-kind-eq-PLAIN_ROUTE
+pub returns-in-17-2 : goal.returns-in-17-2
 unfolding route_fault
-returns-then-kind-eq-PLAIN_ROUTE c = simp (c.if-kind-eq-PLAIN_ROUTE.true, c.if-p-ne0.false)
+returns-in-17-2 c = simp (c.in-17.is, sym c.if-is_empty.ensures)
 
-pub returns-then-kind-ne-DATABASE_ROUTE : goal.returns-then-kind-ne-DATABASE_ROUTE
+pub returns-in-18 : goal.returns-in-18
 unfolding route_fault
-returns-then-kind-ne-DATABASE_ROUTE c = simp (ne_eqb _ _ c.if-kind-eq-PLAIN_ROUTE.false, ne_eqb _ _ c.if-kind-ne-DATABASE_ROUTE.true)
+returns-in-18 c = simp (c.in-18.is, ne_eqb _ _ c.if-p-ne0.true)
 
-pub returns-then-p-ne0-2 : goal.returns-then-p-ne0-2
+pub returns-in-18-2 : goal.returns-in-18-2
 unfolding route_fault
-returns-then-p-ne0-2 c = simp (c.if-kind-ne-DATABASE_ROUTE.false, ne_eqb _ _ c.if-p-ne0-2.true)
+returns-in-18-2 c = simp (c.in-18.is, c.if-p-ne0.false, sym c.if-is_well_formed.ensures)
 
-pub returns-then-not-is_well_formed : goal.returns-then-not-is_well_formed
+pub returns-in-18-3 : goal.returns-in-18-3
 unfolding route_fault
-returns-then-not-is_well_formed c = simp (c.if-kind-ne-DATABASE_ROUTE.false, c.if-p-ne0-2.false, sym c.is_well_formed.ensures ∙ c.if-not-is_well_formed.true)
+returns-in-18-3 c = simp (c.in-18.is, c.if-p-ne0.false, sym c.if-is_well_formed.ensures)
 
-pub returns : goal.returns
+pub returns-in_default : goal.returns-in_default
 unfolding route_fault
-returns c = simp (c.if-kind-ne-DATABASE_ROUTE.false, c.if-p-ne0-2.false, sym c.is_well_formed.ensures ∙ c.if-not-is_well_formed.false)
+returns-in_default c = simp (ne_eqb c.args.kind 17 (λ q. omega arith), ne_eqb c.args.kind 18 (λ q. omega arith))
