@@ -1,10 +1,7 @@
 // The characters of Windows-1252, as UTF-16 units, and the bytes that stand for them.
 ghost use Rattle.std.specs.Prelude.{◌≡◌, false};
-ghost use Rattle.windows1252.specs.Table.{table, unit_of, byte_of, has_byte};
-ghost use Rattle.windows1252.specs.Code.{is_itself};
-
-// The place of a unit that does not stand in the table.
-const NO_ENTRY: u16 = 256;
+ghost use Rattle.windows1252.specs.Table.{table, unit_of, has_byte};
+ghost use Rattle.windows1252.specs.Code.{is_itself, byte_found};
 
 // The character of each byte, as a UTF-16 unit: the WHATWG Encoding Standard's index windows-1252 from 80 on, ASCII below.
 pub(crate) const TABLE: [u16; 256] = [
@@ -42,13 +39,13 @@ pub(crate) fn unit_of(units: &[u16], b: u8) -> u16
     units[b as usize]
 }
 
-// The byte that stands for a unit, or NO_ENTRY.
-pub(crate) fn byte_of(units: &[u16], u: u16) -> u16
+// The byte that stands for a unit, if one does.
+pub(crate) fn byte_of(units: &[u16], u: u16) -> Option<u8>
     requires { units.now ≡ table }
-    ensures { result ≡ byte_of u }
+    ensures { result ≡ byte_found u }
 {
     if is_itself(u) {
-        return u;
+        return Some(u as u8);
     }
     find(units, u)
 }
@@ -58,10 +55,7 @@ pub(crate) fn has_byte(units: &[u16], u: u16) -> bool
     requires { units.now ≡ table }
     ensures { result ≡ has_byte u }
 {
-    if is_itself(u) {
-        return true;
-    }
-    find(units, u) != NO_ENTRY
+    byte_of(units, u).is_some()
 }
 
 // Whether a unit is its own byte: below 80, and from A0 to FF.
@@ -72,17 +66,10 @@ fn is_itself(u: u16) -> bool
 }
 
 // The byte of a unit that is not its own: one of 80 to 9F, searched in their order, so that 9F takes 32 turns.
-fn find(units: &[u16], u: u16) -> u16
+fn find(units: &[u16], u: u16) -> Option<u8>
     requires units_value { units.now ≡ table }
     requires u_value { is_itself u ≡ false }
-    ensures { result ≡ byte_of u }
+    ensures { result ≡ byte_found u }
 {
-    let mut b: u16 = 0x80;
-    while b < 0xa0 {
-        if unit_of(units, b as u8) == u {
-            return b;
-        }
-        b += 1;
-    }
-    NO_ENTRY
+    (0x80..0xa0).find(|b| unit_of(units, *b) == u)
 }

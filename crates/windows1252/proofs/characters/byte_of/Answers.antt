@@ -4,7 +4,4 @@ use Rattle.windows1252.proofs.Table.{own-byte}
 use Rattle.windows1252.proofs.characters.byte_of.Goals as goal
 
 pub returns-then-is_itself : goal.returns-then-is_itself
-returns-then-is_itself c = sym (own-byte c.args.u (sym c.is_itself.ensures ∙ c.if-is_itself.true))
-
-pub find-requires : goal.find-requires
-find-requires c = record { units_value = c.requires; u_value = sym c.is_itself.ensures ∙ c.if-is_itself.false }
+returns-then-is_itself c = own-byte c.args.u (sym c.is_itself.ensures ∙ c.if-is_itself.true)
