@@ -82,16 +82,16 @@ impl PacketStatus {
         PacketStatus(Self::END_OF_MESSAGE)
     }
 
-    pub fn is_end_of_message(status: PacketStatus) -> bool
-        ensures { result ≡ has_bit 0x01 status.0 }
+    pub fn is_end_of_message(self) -> bool
+        ensures { result ≡ has_bit 0x01 self.0 }
     {
-        status.0 & Self::END_OF_MESSAGE != 0
+        self.0 & Self::END_OF_MESSAGE != 0
     }
 
-    pub fn is_ignore(status: PacketStatus) -> bool
-        ensures { result ≡ has_bit 0x02 status.0 }
+    pub fn is_ignore(self) -> bool
+        ensures { result ≡ has_bit 0x02 self.0 }
     {
-        status.0 & Self::IGNORE != 0
+        self.0 & Self::IGNORE != 0
     }
 }
 
@@ -171,7 +171,7 @@ const FIRST_NUMBER: usize = 1;
 pub fn is_packet_size(size: usize) -> bool
     ensures { result ≡ is_packet_size size }
 {
-    (LEAST_PACKET_SIZE <= size) & (size <= MOST_PACKET_SIZE)
+    (LEAST_PACKET_SIZE..=MOST_PACKET_SIZE).contains(&size)
 }
 
 // How many packets of a size a payload of n bytes becomes: none of an empty one, none of a size without room for payload.
@@ -293,14 +293,10 @@ pub fn put_packets(buf: &mut [u8], size: u16, payload: &[u8]) -> usize
     }
     let room = size as usize - PACKET_HEADER_SIZE;
     let mut at: usize = 0;
-    let mut from: usize = 0;
-    let mut number = FIRST_NUMBER;
-    while from < payload.len() {
-        let left = payload.len() - from;
-        let end = from + left.min(room);
-        at = put_part(buf, at, number, left <= room, &payload[from..end]);
-        from = end;
-        number = number + 1;
+    let mut left = payload.len();
+    for (i, part) in payload.chunks(room).enumerate() {
+        left -= part.len();
+        at = put_part(buf, at, FIRST_NUMBER + i, left == 0, part);
     }
     at
 }

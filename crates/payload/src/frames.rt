@@ -171,7 +171,7 @@ fn is_part(header: PacketHeader, lent: usize) -> bool
 pub(crate) fn first(lent: &[u8]) -> Result<Frame, Stop>
     ensures { stopped result ≡ first_of lent.now }
 {
-    if lent.len() == 0 {
+    if lent.is_empty() {
         return Err(Stop::Bad(Refusal::HeaderTooShort));
     }
     let next = packet_at(lent, 0, 1, false)?;

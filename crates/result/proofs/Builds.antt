@@ -22,7 +22,7 @@ use Rattle.emission.specs.Length.{measure_of}
 use Rattle.wire.proofs.Cases.{by-test}
 
 -- a script that is not refused has a reply that a packet's length field can count
-not-long : (s : List ℕ) → refusal_of s ≡ 0 → length (reply_of s) ≤ 65535
+pub not-long : (s : List ℕ) → refusal_of s ≡ 0 → length (reply_of s) ≤ 65535
 unfolding refusal_of
 not-long s e =
     by-test (eqb (verdict_of s) 0)

@@ -3,7 +3,7 @@ ghost use Rattle.std.specs.Prelude.{◌≡◌, ℕ, Ok, cond, ◌<◌, ◌^◌};
 ghost use Rattle.refusals.specs.Refused.{numbered};
 ghost use Rattle.station.specs.Answer.{answers, answers_part, refuses, number_of, answer_of, slots_of, built_outcome};
 
-use refusals::{BUFFER_TOO_SHORT, Refusal};
+use refusals::Refusal;
 use wire::Part;
 
 // The last step of an export that has slots, after all its other refusals: its number, and the values of the first slots.
@@ -13,13 +13,9 @@ pub(crate) fn answered(out: &mut [u64], number: usize, values: &[u64]) -> i64
     ensures out_after { out.new ≡ slots_of (answers number values.now) out.old }
 {
     if out.len() < values.len() {
-        return refused(BUFFER_TOO_SHORT);
+        return refused(Refusal::BufferTooShort.number());
     }
-    let mut i = 0;
-    while i < values.len() {
-        out[i] = values[i];
-        i += 1;
-    }
+    out[..values.len()].copy_from_slice(values);
     number as i64
 }
 
@@ -54,5 +50,5 @@ pub(crate) fn tell(built: Result<usize, Refusal>) -> i64
 pub(crate) fn flag(test: bool) -> u64
     ensures { result ≡ cond test 1 0 }
 {
-    if test { 1 } else { 0 }
+    u64::from(test)
 }
