@@ -43,12 +43,8 @@ fn count_marks(capture: &[u8]) -> Result<usize, Refusal>
     let mut count: usize = 0;
     loop {
         match script::record_at(capture, at) {
-            Found::Cut => {
-                return Err(Refusal::RecordCut);
-            }
-            Found::End => {
-                return Ok(count);
-            }
+            Found::Cut => return Err(Refusal::RecordCut),
+            Found::End => return Ok(count),
             Found::Record { kind, start, len } => {
                 if kind != REQUEST_BODY {
                     return Err(Refusal::KindWrong);
@@ -73,20 +69,12 @@ fn put_marks(capture: &[u8], out: &mut [u64], marked: usize)
     let mut number: u64 = 0;
     let mut count: usize = 0;
     while count < marked {
-        match script::record_at(capture, at) {
-            Found::Cut | Found::End => {
-                return;
-            }
-            Found::Record {
-                kind: _,
-                start,
-                len,
-            } => {
-                at = start + len;
-                count = put_mark(&capture[start..at], number, out, count);
-                number += 1;
-            }
-        }
+        let Found::Record { start, len, .. } = script::record_at(capture, at) else {
+            return;
+        };
+        at = start + len;
+        count = put_mark(&capture[start..at], number, out, count);
+        number += 1;
     }
 }
 

@@ -171,7 +171,7 @@ const FIRST_NUMBER: usize = 1;
 pub fn is_packet_size(size: usize) -> bool
     ensures { result ≡ is_packet_size size }
 {
-    (LEAST_PACKET_SIZE <= size) & (size <= MOST_PACKET_SIZE)
+    (LEAST_PACKET_SIZE..=MOST_PACKET_SIZE).contains(&size)
 }
 
 // How many packets of a size a payload of n bytes becomes: none of an empty one, none of a size without room for payload.

@@ -47,21 +47,14 @@ pub(crate) fn texts_fault(a: &[u8], b: &[u8]) -> Result<(), Refusal>
     text_fault(b)
 }
 
-// The refusal of an info's two names by their lengths.
-fn names_fault(server: &[u8], procedure: &[u8]) -> Result<(), Refusal>
-    ensures { refused_by result ≡ first_of (name_fault server.now ∷ name_fault procedure.now ∷ []) }
-{
-    name_fault(server)?;
-    name_fault(procedure)
-}
-
 // The refusal of an info's texts.
 pub(crate) fn info_fault(message: &[u8], server: &[u8], procedure: &[u8]) -> Result<(), Refusal>
     ensures { refused_by result ≡ first_of (text_fault message.now ∷ text_fault server.now ∷ text_fault procedure.now ∷ name_fault server.now ∷ name_fault procedure.now ∷ []) }
 {
     text_fault(message)?;
     texts_fault(server, procedure)?;
-    names_fault(server, procedure)
+    name_fault(server)?;
+    name_fault(procedure)
 }
 
 // The size of FEDAUTHINFO without its texts.

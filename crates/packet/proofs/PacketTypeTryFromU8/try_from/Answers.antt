@@ -1,5 +1,6 @@
 -- `packet::PacketType::try_from` meets its contract. Assumes nothing.
 use borrow.Author.Tests.{ne_eqb}
+use native.Mathlib.Omega.{arith}
 use Rattle.packet.specs.Types.{type_of, types, type_in}
 use Rattle.packet.proofs.PacketTypeTryFromU8.try_from.Goals as goal
 
@@ -38,12 +39,12 @@ returns-in-14 c = rw c.in-14.is
 pub returns-in_default : goal.returns-in_default
 unfolding type_of types type_in
 returns-in_default c = simp (
-  ne_eqb _ _ c.in_default.in_default-own.rest.0.0.0.0.0.0.0.1,
-  ne_eqb _ _ c.in_default.in_default-own.rest.0.0.0.0.0.0.1,
-  ne_eqb _ _ c.in_default.in_default-own.rest.0.0.0.0.0.1,
-  ne_eqb _ _ c.in_default.in_default-own.rest.0.0.0.0.1,
-  ne_eqb _ _ c.in_default.in_default-own.rest.0.0.0.1,
-  ne_eqb _ _ c.in_default.in_default-own.rest.0.0.1,
-  ne_eqb _ _ c.in_default.in_default-own.rest.0.1,
-  ne_eqb _ _ c.in_default.in_default-own.rest.1,
+  ne_eqb c.args.value 1 (λ e. omega arith),
+  ne_eqb c.args.value 8 (λ e. omega arith),
+  ne_eqb c.args.value 18 (λ e. omega arith),
+  ne_eqb c.args.value 4 (λ e. omega arith),
+  ne_eqb c.args.value 6 (λ e. omega arith),
+  ne_eqb c.args.value 16 (λ e. omega arith),
+  ne_eqb c.args.value 3 (λ e. omega arith),
+  ne_eqb c.args.value 14 (λ e. omega arith),
 )
