@@ -41,13 +41,13 @@ fn build_lent(line: &[u8], name: &[u8], buf: &mut [u8], lent: usize) -> Told {
 
 // Builders by the beginning of their names.
 fn build(line: &[u8], name: &[u8], buf: &mut [u8]) -> Told {
-    if words::piece(name, 6, b'_') == b"query".as_slice() {
+    if name.starts_with(b"build_query_") {
         return build_result(line, name, buf);
     }
     if name == b"cut_payload".as_slice() {
         return cut(line, buf);
     }
-    if words::piece(name, 6, b'_') == b"prelogin".as_slice() {
+    if name.starts_with(b"build_prelogin_") {
         return build_prelogin(line, name, buf);
     }
     build_fixed(line, name, buf)
@@ -173,7 +173,7 @@ fn build_first(line: &[u8], name: &[u8], one: &[u8], buf: &mut [u8]) -> Told {
 // Builders of two texts, or of a text and a list.
 fn build_second(line: &[u8], name: &[u8], one: &[u8], buf: &mut [u8]) -> Told {
     let mut space = spaces::zeros();
-    if words::piece(name, 6, b'_') == b"fedauth".as_slice() {
+    if name.starts_with(b"build_fedauth_") {
         let n = words::bytes_at(line, 3, &mut space);
         return build_fedauth(name, one, wire::part_of(&space, calls::first(n)), buf);
     }
