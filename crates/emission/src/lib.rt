@@ -43,6 +43,7 @@ struct Turn {
 }
 
 // A size and more, up to 65,536.
+#[tactic(auto, unfolding(crate::specs::Runs::capped))]
 fn grown(size: usize, more: usize) -> usize
     ensures { result ≡ capped (size + more) }
 {
@@ -50,6 +51,7 @@ fn grown(size: usize, more: usize) -> usize
 }
 
 // A size and more, neither over 65,536.
+#[tactic(auto, unfolding(crate::specs::Runs::capped))]
 fn added(size: usize, more: usize) -> usize
     requires { (size ≤ 65536) × (more ≤ 65536) }
     ensures { result ≡ capped (size + more) }
@@ -103,6 +105,7 @@ fn column_fault(p: &[u8]) -> Result<(), Refusal>
 }
 
 // What a column or a chunk adds to a reply, and its fault.
+#[tactic(auto, unfolding(crate::specs::Runs::record_size))]
 fn record_size(kind: u16, p: &[u8]) -> usize
     ensures { result ≡ capped (record_size kind p.now) }
 {
@@ -112,6 +115,7 @@ fn record_size(kind: u16, p: &[u8]) -> usize
     grown(4, p.len())
 }
 
+#[tactic(auto, unfolding(crate::specs::Runs::record_fault))]
 fn record_fault(kind: u16, p: &[u8]) -> Result<(), Refusal>
     ensures { refused_by result ≡ record_fault kind p.now }
 {
@@ -158,6 +162,7 @@ pub fn run_at(s: &[u8], at: usize, kind: u16) -> Run
 }
 
 // A run with one record more.
+#[tactic(auto, using(crate::proofs::Sizes::first_refused), unfolding(crate::specs::Inner::longer_run))]
 fn longer(run: Run, kind: u16, p: &[u8], next: usize) -> Run
     requires { (run.count + 1 < 2 ^ 64) × (run.bytes + length p.now < 2 ^ 64) }
     ensures { numbered_run result ≡ longer_run (numbered_run run) kind p.now next }
@@ -303,6 +308,7 @@ fn turn_at(s: &[u8], kind: u16, p: &[u8], next: usize) -> Result<Turn, Refusal>
 }
 
 // A turn after the DONE of the set before.
+#[tactic(auto, unfolding(crate::specs::Inner::after_done))]
 fn ended_turn(t: Turn) -> Turn
     ensures { result ≡ after_done t }
 {

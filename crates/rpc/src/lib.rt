@@ -13,7 +13,7 @@ ghost use Rattle.rpc.specs.Answers.{placed, parameter_read, parameters_read, see
 
 use cells::{TypeInfo, Value, cell_at, type_at};
 use payload::frames::Frame;
-use payload::{NumberAt, PartAt, frames, minus, part_at, u8_at, u16_at};
+use payload::{NumberAt, PartAt, frames, part_at, u8_at, u16_at};
 use refusals::Refusal;
 use request::HeadersFault;
 use wire::Part;
@@ -198,7 +198,7 @@ fn value_bytes(read: ParameterAt) -> Part
     let end = read.next;
     let limit = read.parameter.info.limit as usize;
     match read.parameter.value {
-        Value::Number(_) => part_to(minus(end, limit), end),
+        Value::Number(_) => part_to(end.saturating_sub(limit), end),
         Value::Part(part) => part,
         Value::Max(part) => part,
         Value::Null => part_to(end, end),
@@ -210,7 +210,7 @@ fn part_to(from: usize, to: usize) -> Part
 {
     Part {
         start: from,
-        len: minus(to, from),
+        len: to.saturating_sub(from),
     }
 }
 
