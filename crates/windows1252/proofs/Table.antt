@@ -94,9 +94,12 @@ module _ (u : ℕ) where
       (λ h. let a : ltb u 0x80 ≡ false = le-ltb u 0x80 (omega arith) in let b : leb u 0xFF ≡ false = lt-leb u 0xFF h in
       clash (let z : is_itself u ≡ false = rw (a, b) (and_none (leb 0xA0 u)) in cc))
 
-  pub own-byte : is_itself u ≡ true → Some u ≡ byte_found u
-  unfolding byte_found has_byte
-  own-byte e = let is : byte_of u ≡ u = ap byte_of (sym (itself u (own-small e) e)) ∙ byte-of-unit u (own-small e) in rw (is, lt-ltb u 256 (own-small e))
+  pub own-byte : is_itself u ≡ true → byte_of u ≡ u
+  own-byte e = ap byte_of (sym (itself u (own-small e) e)) ∙ byte-of-unit u (own-small e)
+
+  pub own-has : is_itself u ≡ true → has_byte u ≡ true
+  unfolding has_byte
+  own-has e = rw (own-byte e) (lt-ltb u 256 (own-small e))
 
 -- of the bytes only 80 to 9F are not their own units
 between : (u : ℕ) → u < 256 → is_itself u ≡ false → (0x80 ≤ u) × (u < 0xA0)

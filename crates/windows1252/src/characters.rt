@@ -1,6 +1,6 @@
 // The characters of Windows-1252, as UTF-16 units, and the bytes that stand for them.
-ghost use Rattle.std.specs.Prelude.{◌≡◌, false};
-ghost use Rattle.windows1252.specs.Table.{table, unit_of, has_byte};
+ghost use Rattle.std.specs.Prelude.{◌≡◌, true, false};
+ghost use Rattle.windows1252.specs.Table.{table, unit_of, byte_of, has_byte};
 ghost use Rattle.windows1252.specs.Code.{is_itself, byte_found};
 
 // The character of each byte, as a UTF-16 unit: the WHATWG Encoding Standard's index windows-1252 from 80 on, ASCII below.
@@ -39,15 +39,16 @@ pub(crate) fn unit_of(units: &[u16], b: u8) -> u16
     units[b as usize]
 }
 
-// The byte that stands for a unit, if one does.
-pub(crate) fn byte_of(units: &[u16], u: u16) -> Option<u8>
-    requires { units.now ≡ table }
-    ensures { result ≡ byte_found u }
+// The byte that stands for a unit that has one.
+pub(crate) fn byte_of(units: &[u16], u: u16) -> u8
+    requires units_value { units.now ≡ table }
+    requires u_value { has_byte u ≡ true }
+    ensures { result ≡ byte_of u }
 {
     if is_itself(u) {
-        return Some(u as u8);
+        return u as u8;
     }
-    find(units, u)
+    find(units, u).unwrap()
 }
 
 // Whether a byte stands for a unit.
@@ -55,7 +56,10 @@ pub(crate) fn has_byte(units: &[u16], u: u16) -> bool
     requires { units.now ≡ table }
     ensures { result ≡ has_byte u }
 {
-    byte_of(units, u).is_some()
+    if is_itself(u) {
+        return true;
+    }
+    find(units, u).is_some()
 }
 
 // Whether a unit is its own byte: below 80, and from A0 to FF.
@@ -65,7 +69,9 @@ fn is_itself(u: u16) -> bool
     (u < 0x80) | ((0xa0 <= u) & (u <= 0xff))
 }
 
-// The byte of a unit that is not its own: one of 80 to 9F, searched in their order, so that 9F takes 32 turns.
+// The byte of a unit that is not its own, if it has one: one of 80 to 9F, searched in their order, so that 9F takes 32 turns.
+// It stays a call of its own: the loops over a text are small without it, and most units are their own bytes.
+#[inline(never)]
 fn find(units: &[u16], u: u16) -> Option<u8>
     requires units_value { units.now ≡ table }
     requires u_value { is_itself u ≡ false }

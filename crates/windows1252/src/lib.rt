@@ -204,7 +204,7 @@ fn put_bytes(text: &[u8], buf: &mut [u8], at: usize) -> usize
     let (pairs, _) = text.as_chunks::<2>();
     let mut to = at;
     for pair in pairs {
-        buf[to] = byte_of(&units, unit_in(pair)).unwrap();
+        buf[to] = byte_of(&units, unit_in(pair));
         to += 1;
     }
     to
@@ -214,5 +214,5 @@ fn put_bytes(text: &[u8], buf: &mut [u8], at: usize) -> usize
 fn unit_in(pair: &[u8; 2]) -> u16
     ensures { result ≡ le_at 2 pair.now }
 {
-    wire::u16_from_le_bytes(pair[0], pair[1])
+    u16::from_le_bytes(*pair)
 }
