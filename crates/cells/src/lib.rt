@@ -86,6 +86,7 @@ pub fn type_at(lent: &[u8], frame: Frame, at: usize) -> Result<TypeAt, Refusal>
     })
 }
 
+#[tactic(auto, unfolding(crate::specs::Cells::is_code))]
 fn is_code(code: u8) -> bool
     ensures { result ≡ is_code code }
 {
@@ -346,12 +347,14 @@ fn chunk_at(
 }
 
 // Whether a chunk of n bytes can stand where left bytes are to come, and whether the last can.
+#[tactic(auto, unfolding(crate::specs::Cells::is_chunk))]
 fn is_chunk(text: bool, known: bool, left: usize, n: usize) -> bool
     ensures { result ≡ is_chunk text known left n }
 {
     ((n % 2 == 0) | !text) & ((n <= left) | !known)
 }
 
+#[tactic(auto, unfolding(crate::specs::Cells::is_last))]
 fn is_last(known: bool, left: usize) -> bool
     ensures { result ≡ is_last known left }
 {

@@ -19,7 +19,8 @@ use token::name_fault;
 
 const MOST_BYTES: usize = 65535;
 
-// The refusal of a reply of a size, whose arguments none met: 17, then 20.
+// The refusal of a reply of a size, after those of its arguments: 17, then 20.
+#[tactic(auto, unfolding(crate::specs::Answer::refusal_of, crate::specs::Answer::first_of))]
 pub(crate) fn refusal(size: usize, room: usize) -> Result<(), Refusal>
     ensures { refused_by result ≡ refusal_of 0 size room }
 {
@@ -57,9 +58,6 @@ pub(crate) fn info_fault(message: &[u8], server: &[u8], procedure: &[u8]) -> Res
     name_fault(procedure)
 }
 
-// The size of FEDAUTHINFO without its texts.
-const FEDAUTH_INFO_SIZE: usize = 27;
-
 // The size of a list of routes, or the refusal of their host or of one of them.
 pub(crate) fn measure_routing(routes: &[u8], to: &Routes) -> Result<usize, Refusal>
     ensures { numbered result ≡ measured (first_of (text_fault to.now.host.now ∷ routes_fault (records routes.now) ∷ [])) (all_sizes (route_size to.now.host.now) (records routes.now)) }
@@ -67,6 +65,9 @@ pub(crate) fn measure_routing(routes: &[u8], to: &Routes) -> Result<usize, Refus
     text_fault(to.host)?;
     measure_records(routes, to)
 }
+
+// The size of FEDAUTHINFO without its texts.
+const FEDAUTH_INFO_SIZE: usize = 27;
 
 // The size of FEDAUTHINFO, as far as it counts.
 pub(crate) fn fedauth_info_size(sts_url: &[u8], spn: &[u8]) -> usize

@@ -410,6 +410,7 @@ pub fn build_routing_response(
     )
 }
 
+#[tactic(auto, unfolding(crate::specs::Replies::database_route_reply, crate::specs::Lists::route_bytes))]
 pub fn build_enhanced_routing_envchange_token(
     redirect_host: &[u8],
     redirect_port: u16,

@@ -272,6 +272,7 @@ pub extern "C" fn station_build_enhanced_routing_envchange_token(
 }
 
 // The acknowledgement of enhanced routing that a number stands for: a byte, and none from 256 on.
+#[tactic(auto, unfolding(crate::specs::Builds::ack_of))]
 fn acknowledgement(ack: u16) -> Option<u8>
     ensures { result ≡ ack_of ack }
 {

@@ -23,7 +23,7 @@ returns-in-4 c =
     (to_z-of_z {w = w64} (record { sfits = omega arith }) ∙ c.cast_signed-in-4.ensures ∙ wider w32 4 c.args.n (λ q. absurd (omega arith)) refl refl)
 
 pub returns-in_default : goal.returns-in_default
-returns-in_default c = let m = c.in_default.in_default-own.rest in
-    rw (width-last c.args.width c.requires.0 m.0.0.1 m.0.1 m.1)
+returns-in_default c =
+    rw (width-last c.args.width c.requires.0 (λ e. absurd (omega arith)) (λ e. absurd (omega arith)) (λ e. absurd (omega arith)))
     (to_z-of_z {w = w64} (record { sfits = c.cast_signed-in_default.type_inv }) ∙ c.cast_signed-in_default.ensures
     ∙ wider w64 8 c.args.n (λ q. absurd (omega arith)) refl refl)
