@@ -1,4 +1,5 @@
 // Text that goes to a writer: each function puts its part after what stands there. The writer gathers it (gathering.rt).
+use refusals::Refusal;
 use std::io;
 use std::io::Write;
 use wire::Part;
@@ -98,8 +99,8 @@ pub(crate) fn held_line(
 }
 
 // The line of a refusal.
-pub(crate) fn refused(out: &mut impl Write, refusal: u8) -> io::Result<()> {
-    number_line(out, b"refused", refusal as u64)
+pub(crate) fn refused(out: &mut impl Write, refusal: Refusal) -> io::Result<()> {
+    number_line(out, b"refused", refusal.number() as u64)
 }
 
 // The end of a line.

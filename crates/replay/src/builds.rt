@@ -11,7 +11,7 @@ pub(crate) fn holds(line: &[u8], name: &[u8]) -> bool {
     let lent = words::u64_at(line, 1) as usize;
     match build_lent(line, name, &mut buf, lent) {
         Some(Ok(len)) => is_written(line, &buf, len),
-        Some(Err(refusal)) => is_refused(line, &buf, refusal.number()),
+        Some(Err(refusal)) => is_refused(line, &buf, refusal),
         None => false,
     }
 }
@@ -23,7 +23,7 @@ pub(crate) fn is_written(line: &[u8], buf: &[u8], len: usize) -> bool {
     calls::same_bytes(line, wire::part_of(buf, calls::first(len)))
 }
 
-pub(crate) fn is_refused(line: &[u8], buf: &[u8], refusal: u8) -> bool {
+pub(crate) fn is_refused(line: &[u8], buf: &[u8], refusal: Refusal) -> bool {
     if !calls::is_kept(buf, 0) {
         return false;
     }
