@@ -26,6 +26,7 @@ use put::{LOGIN_ACK, put_error, put_feature_ext_ack, put_fedauth_info, put_routi
 use refusals::Refusal;
 use text::text_fault;
 use token::Message;
+use wire::Writer;
 
 // The kinds of records in lists: routes, and features that are acknowledged.
 pub const PLAIN_ROUTE: u16 = 0x0011;
@@ -52,7 +53,9 @@ fn fixed(bytes: &[u8], buf: &mut [u8]) -> Result<usize, Refusal>
     ensures buf_after { buf.new ≡ buffer_of (reply 0 bytes.now) buf.old }
 {
     refusal(bytes.len(), buf.len())?;
-    Ok(wire::put_slice(buf, 0, bytes))
+    let mut w = Writer { buf, at: 0 };
+    w.put_slice(bytes);
+    Ok(w.at)
 }
 
 // PRELOGIN without encryption and FEDAUTH.
@@ -146,7 +149,9 @@ pub fn build_feature_ext_ack(features: &[u8], buf: &mut [u8]) -> Result<usize, R
 {
     let size = 2 + measure_records(features, &Features)?;
     refusal(size, buf.len())?;
-    Ok(put_feature_ext_ack(buf, 0, features))
+    let mut w = Writer { buf, at: 0 };
+    put_feature_ext_ack(&mut w, features);
+    Ok(w.at)
 }
 
 // FEATUREEXTACK of enhanced routing.
@@ -173,9 +178,11 @@ pub fn build_fedauth_challenge_response(
     texts_fault(sts_url, spn)?;
     let size = PACKET_HEADER_SIZE + FEDAUTH_ACK.len() + fedauth_info_size(sts_url, spn);
     refusal(size, buf.len())?;
-    let a = write_reply_header(buf, size as u16);
-    let b = wire::put_slice(buf, a, &FEDAUTH_ACK);
-    Ok(put_fedauth_info(buf, b, sts_url, spn))
+    let mut w = Writer { buf, at: 0 };
+    write_reply_header(&mut w, size as u16);
+    w.put_slice(&FEDAUTH_ACK);
+    put_fedauth_info(&mut w, sts_url, spn);
+    Ok(w.at)
 }
 
 pub fn build_fedauth_info_token(
@@ -188,7 +195,9 @@ pub fn build_fedauth_info_token(
 {
     texts_fault(sts_url, spn)?;
     refusal(fedauth_info_size(sts_url, spn), buf.len())?;
-    Ok(put_fedauth_info(buf, 0, sts_url, spn))
+    let mut w = Writer { buf, at: 0 };
+    put_fedauth_info(&mut w, sts_url, spn);
+    Ok(w.at)
 }
 
 // LOGINACK and the ENVCHANGEs of collation, database and packet size.
@@ -209,7 +218,9 @@ pub fn build_done_token_with_status(
     ensures buf_after { buf.new ≡ buffer_of (done_reply status row_count) buf.old }
 {
     refusal(DONE_SIZE, buf.len())?;
-    Ok(token::put_done(buf, 0, status, row_count))
+    let mut w = Writer { buf, at: 0 };
+    token::put_done(&mut w, status, row_count);
+    Ok(w.at)
 }
 
 // The last DONE of a reply.
@@ -290,7 +301,9 @@ pub fn build_info_token(
         procedure: proc_name,
         line: line_number,
     };
-    Ok(token::put_message(buf, 0, &info))
+    let mut w = Writer { buf, at: 0 };
+    token::put_message(&mut w, &info);
+    Ok(w.at)
 }
 
 // An ERROR of state 1 and line 1 without names, and its DONE.
@@ -316,8 +329,10 @@ fn error_tokens(
         procedure: b"",
         line: 1,
     };
-    let next = token::put_message(buf, 0, &error);
-    Ok(token::put_done(buf, next, status, 0))
+    let mut w = Writer { buf, at: 0 };
+    token::put_message(&mut w, &error);
+    token::put_done(&mut w, status, 0);
+    Ok(w.at)
 }
 
 // An error after which the reply goes on.
@@ -354,9 +369,11 @@ pub fn build_error_response(message: &[u8], buf: &mut [u8]) -> Result<usize, Ref
     text_fault(message)?;
     let size = PACKET_HEADER_SIZE + MESSAGE_SIZE + DONE_SIZE + capped(message.len());
     refusal(size, buf.len())?;
-    let a = write_reply_header(buf, size as u16);
-    let b = put_error(buf, a, message);
-    Ok(token::put_done(buf, b, DONE_FINAL, 0))
+    let mut w = Writer { buf, at: 0 };
+    write_reply_header(&mut w, size as u16);
+    put_error(&mut w, message);
+    token::put_done(&mut w, DONE_FINAL, 0);
+    Ok(w.at)
 }
 
 // ENVCHANGE of a route by its kind; a plain one has no database.
@@ -373,7 +390,9 @@ fn route_token(
     texts_fault(host, database)?;
     let to = Routes { host, port };
     refusal(to.size(kind, database), buf.len())?;
-    Ok(to.put(buf, 0, kind, database))
+    let mut w = Writer { buf, at: 0 };
+    to.put(&mut w, kind, database);
+    Ok(w.at)
 }
 
 pub fn build_routing_envchange_token(
@@ -444,8 +463,10 @@ pub fn build_routing_login_response(
     let routes_size = measure_routing(routes, &to)?;
     let size = PACKET_HEADER_SIZE + login_size(login_ack, ack) + routes_size + DONE_SIZE;
     refusal(size, buf.len())?;
-    let a = write_reply_header(buf, size as u16);
-    Ok(put_routing_tokens(buf, a, routes, &to, login_ack, ack, ack_before_routing))
+    let mut w = Writer { buf, at: 0 };
+    write_reply_header(&mut w, size as u16);
+    put_routing_tokens(&mut w, routes, &to, login_ack, ack, ack_before_routing);
+    Ok(w.at)
 }
 
 // The most bytes of a reply's payload: with a header they are the most that a length field counts.

@@ -1,16 +1,17 @@
 // Lists of records: routes to a host, and features that are acknowledged. One pass over a list measures it, and one writes it.
-ghost use Rattle.std.specs.Prelude.{◌≡◌, ℕ, List};
+ghost use Rattle.std.specs.Prelude.{◌≡◌, ℕ, ◌≤◌, List, length};
 ghost use Rattle.refusals.specs.Refused.{numbered, refused_by};
-ghost use Rattle.wire.specs.Over.{Wrote};
+ghost use Rattle.wire.specs.Puts.{Puts};
 ghost use Rattle.script.specs.Records.{records};
 ghost use Rattle.response.specs.Lists.{first_fault, all_bytes, route_fault, route_bytes, feature_fault, feature_bytes};
 ghost use Rattle.response.specs.Inner.{capped, route_size, feature_size, all_sizes, measured};
 
 use crate::faults::capped;
-use crate::put::{put_database_route, put_nothing, put_plain_route};
+use crate::put::{put_database_route, put_plain_route};
 use crate::{DATABASE_ROUTE, FEATURE, PLAIN_ROUTE};
 use refusals::Refusal;
 use script::Found;
+use wire::Writer;
 
 // What the records of a list are: which of them is refused, and which bytes each becomes.
 pub(crate) trait Listed {
@@ -30,8 +31,8 @@ pub(crate) trait Listed {
         ensures { result ≡ capped (record_size self.now kind p.now) };
 
     // Puts the bytes of a record that is not refused.
-    fn put(&self, buf: &mut [u8], at: usize, kind: u16, p: &[u8]) -> usize
-        ensures { Wrote buf.old at (record_bytes self.now kind p.now) buf.new result };
+    fn put(&self, w: &mut Writer, kind: u16, p: &[u8])
+        ensures { Puts w.old (record_bytes self.now kind p.now) w.new };
 }
 
 // Features that are acknowledged, each by its id and data.
@@ -62,10 +63,10 @@ impl Listed for Features {
         capped(FEATURE_SIZE + capped(wire::left(p, 1)))
     }
 
-    fn put(&self, buf: &mut [u8], at: usize, _kind: u16, p: &[u8]) -> usize {
-        let a = wire::put_u8(buf, at, wire::get_u8(p, 0));
-        let b = wire::put_u32_le(buf, a, (wire::left(p, 1) % 0x1_0000_0000) as u32);
-        wire::put_slice(buf, b, script::rest_after(p, 1))
+    fn put(&self, w: &mut Writer, _kind: u16, p: &[u8]) {
+        w.put_u8(wire::get_u8(p, 0));
+        w.put_u32_le((wire::left(p, 1) % 0x1_0000_0000) as u32);
+        w.put_slice(script::rest_after(p, 1));
     }
 }
 
@@ -109,11 +110,12 @@ impl<'a> Listed for Routes<'a> {
     }
 
     #[tactic(auto, unfolding(crate::specs::Lists::route_bytes))]
-    fn put(&self, buf: &mut [u8], at: usize, kind: u16, p: &[u8]) -> usize {
+    fn put(&self, w: &mut Writer, kind: u16, p: &[u8]) {
         if kind == PLAIN_ROUTE {
-            return put_plain_route(buf, at, self.host, self.port);
+            put_plain_route(w, self.host, self.port);
+            return;
         }
-        put_database_route(buf, at, self.host, self.port, p)
+        put_database_route(w, self.host, self.port, p);
     }
 }
 
@@ -143,15 +145,14 @@ pub(crate) fn measure_records<L: Listed>(list: &[u8], of: &L) -> Result<usize, R
 }
 
 // The bytes of a list that no refusal met.
-pub(crate) fn put_records<L: Listed>(buf: &mut [u8], at: usize, list: &[u8], of: &L) -> usize
-    ensures { Wrote buf.old at (all_bytes (L.record_bytes of.now) (records list.now)) buf.new result }
+pub(crate) fn put_records<L: Listed>(w: &mut Writer, list: &[u8], of: &L)
+    requires { w.old.at ≤ length w.old.buf.now }
+    ensures { Puts w.old (all_bytes (L.record_bytes of.now) (records list.now)) w.new }
 {
-    let mut place = put_nothing(buf, at);
     let mut from: usize = 0;
     while let Found::Record { kind, start, len } = script::record_at(list, from) {
         let next = start + len;
-        place = of.put(buf, place, kind, &list[start..next]);
+        of.put(w, kind, &list[start..next]);
         from = next;
     }
-    place
 }

@@ -4,7 +4,7 @@ use native.Mathlib.Omega.{arith}
 use Rattle.token.proofs.Sizes.{size-done}
 use Rattle.response.proofs.Ends.{refused, wrote}
 use Rattle.response.specs.Replies.{done_reply}
-use Rattle.wire.proofs.Over.{wrote as wrote_both}
+use borrow.Author.Rules.{rules}
 use Rattle.response.proofs.build_done_token_with_status.Goals as goal
 
 pub returns-in_err-refusal : goal.returns-in_err-refusal
@@ -15,4 +15,4 @@ returns-in_err-refusal c = let a = c.args in
 pub returns : goal.returns
 unfolding done_reply
 returns c = let a = c.args in
-    let w = wrote 13 _ a.buf.now refl (omega (arith, size-done a.status 0xC1 a.row_count)) c.in_ok-refusal.ensures (wrote_both c.put_done.ensures.buf_after c.put_done.ensures.place_after) in record { value = w.0; buf_after = w.1 }
+    let w = wrote 13 _ a.buf.now refl (omega (arith, size-done a.status 0xC1 a.row_count)) c.in_ok-refusal.ensures c.put_done.ensures.wrote in record { value = w.0; buf_after = search (rules, w.1) }

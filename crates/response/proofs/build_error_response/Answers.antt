@@ -2,12 +2,13 @@
 use native.Mathlib.Omega.{arith}
 use Rattle.token.proofs.Sizes.{size-done}
 use Rattle.response.proofs.Ends.{faulted, sent, unsent, within}
-use Rattle.wire.proofs.Over.{wrote, then}
+use Rattle.wire.proofs.Puts.{then}
 use lib.ListN.{length-append}
 use Rattle.wire.specs.Fields.{flat}
 use Rattle.token.specs.Tokens.{done, token_bytes}
 use Rattle.response.proofs.Lengths.{error-size}
 use Rattle.response.specs.Replies.{error_reply, error_fields}
+use borrow.Author.Rules.{rules}
 use Rattle.response.proofs.build_error_response.Goals as goal
 
 pub returns-in_err-text_fault : goal.returns-in_err-text_fault
@@ -28,4 +29,4 @@ pub returns : goal.returns
 unfolding error_reply
 returns c = let a = c.args in
     let m = a.message.now in
-    let w = sent _ _ a.buf.now c.in_ok-text_fault.ensures (omega (arith, error-size m, size-done 0 0xC1 0, length-append (flat (error_fields m)) (token_bytes (done 0 0xC1 0)))) c.in_ok-refusal.ensures (wrote c.write_reply_header-a.ensures.buf_after c.write_reply_header-a.ensures.place_after) (then c.put_error-b.ensures (wrote c.put_done.ensures.buf_after c.put_done.ensures.place_after)) in record { value = w.0; buf_after = w.1 }
+    let w = sent _ _ a.buf.now c.in_ok-text_fault.ensures (omega (arith, error-size m, size-done 0 0xC1 0, length-append (flat (error_fields m)) (token_bytes (done 0 0xC1 0)))) c.in_ok-refusal.ensures c.write_reply_header.ensures.wrote (then c.put_error.ensures c.put_done.ensures).wrote in record { value = w.0; buf_after = search (rules, w.1) }

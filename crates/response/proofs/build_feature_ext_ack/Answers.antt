@@ -5,6 +5,7 @@ use native.Mathlib.Omega.{arith}
 use Rattle.response.proofs.Measuring.{fault-of, size_of}
 use Rattle.response.proofs.Ends.{faulted, refused, wrote}
 use Rattle.response.specs.Replies.{features_reply}
+use borrow.Author.Rules.{rules}
 use Rattle.response.proofs.build_feature_ext_ack.Goals as goal
 
 pub returns-in_err-size : goal.returns-in_err-size
@@ -25,4 +26,4 @@ pub returns : goal.returns
 unfolding features_reply
 returns c = let a = c.args in
     let list = size_of _ _ c.in_ok-size.ensures in
-    let w = wrote _ _ a.buf.now list.0 (features-same (records a.features.now) _ list.1) c.in_ok-refusal.ensures c.put_feature_ext_ack.ensures in record { value = w.0; buf_after = w.1 }
+    let w = wrote _ _ a.buf.now list.0 (features-same (records a.features.now) _ list.1) c.in_ok-refusal.ensures c.put_feature_ext_ack.ensures.wrote in record { value = w.0; buf_after = search (rules, w.1) }

@@ -2,8 +2,9 @@
 use Rattle.response.proofs.Lengths.{challenge-same, fedauth-ack}
 use native.Mathlib.Omega.{arith}
 use Rattle.response.proofs.Ends.{faulted, sent, unsent, within}
-use Rattle.wire.proofs.Over.{wrote, then, wrote_as}
+use Rattle.wire.proofs.Puts.{then, put_as}
 use Rattle.response.specs.Replies.{challenge_reply}
+use borrow.Author.Rules.{rules}
 use Rattle.response.proofs.build_fedauth_challenge_response.Goals as goal
 
 pub returns-in_err-texts_fault : goal.returns-in_err-texts_fault
@@ -22,4 +23,4 @@ overflow_cast-size c = omega (arith, within _ _ c.in_ok-refusal.ensures)
 pub returns : goal.returns
 unfolding challenge_reply
 returns c = let a = c.args in
-    let w = sent _ _ a.buf.now c.in_ok-texts_fault.ensures (challenge-same a.sts_url.now a.spn.now _ c.fedauth_info_size.ensures) c.in_ok-refusal.ensures (wrote c.write_reply_header-a.ensures.buf_after c.write_reply_header-a.ensures.place_after) (then (wrote_as (wrote c.put_slice-b.ensures.buf_after c.put_slice-b.ensures.place_after) fedauth-ack) c.put_fedauth_info.ensures) in record { value = w.0; buf_after = w.1 }
+    let w = sent _ _ a.buf.now c.in_ok-texts_fault.ensures (challenge-same a.sts_url.now a.spn.now _ c.fedauth_info_size.ensures) c.in_ok-refusal.ensures c.write_reply_header.ensures.wrote (then (put_as c.put_slice.ensures fedauth-ack) c.put_fedauth_info.ensures).wrote in record { value = w.0; buf_after = search (rules, w.1) }

@@ -2,6 +2,7 @@
 use native.Mathlib.Omega.{arith}
 use Rattle.response.proofs.Ends.{faulted, refused, wrote}
 use Rattle.response.specs.Replies.{fedauth_info_reply}
+use borrow.Author.Rules.{rules}
 use Rattle.response.proofs.build_fedauth_info_token.Goals as goal
 
 pub returns-in_err-texts_fault : goal.returns-in_err-texts_fault
@@ -17,4 +18,4 @@ returns-in_err-refusal c = let a = c.args in
 pub returns : goal.returns
 unfolding fedauth_info_reply
 returns c = let a = c.args in
-    let w = wrote _ _ a.buf.now c.in_ok-texts_fault.ensures (omega (arith, c.fedauth_info_size.ensures)) c.in_ok-refusal.ensures c.put_fedauth_info.ensures in record { value = w.0; buf_after = w.1 }
+    let w = wrote _ _ a.buf.now c.in_ok-texts_fault.ensures (omega (arith, c.fedauth_info_size.ensures)) c.in_ok-refusal.ensures c.put_fedauth_info.ensures.wrote in record { value = w.0; buf_after = search (rules, w.1) }

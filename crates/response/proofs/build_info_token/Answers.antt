@@ -3,7 +3,7 @@ use native.Mathlib.Omega.{arith}
 use Rattle.token.proofs.Sizes.{size-message}
 use Rattle.response.proofs.Ends.{faulted, refused, wrote}
 use Rattle.response.specs.Replies.{info_reply}
-use Rattle.wire.proofs.Over.{wrote as wrote_both}
+use borrow.Author.Rules.{rules}
 use Rattle.response.proofs.build_info_token.Goals as goal
 
 pub returns-in_err-info_fault : goal.returns-in_err-info_fault
@@ -19,4 +19,4 @@ returns-in_err-refusal c = let a = c.args in
 pub returns : goal.returns
 unfolding info_reply
 returns c = let a = c.args in
-    let w = wrote _ _ a.buf.now c.in_ok-info_fault.ensures (omega (arith, size-message 0xAB a.number a.state a.severity a.message.now a.server_name.now a.proc_name.now a.line_number)) c.in_ok-refusal.ensures (wrote_both c.put_message.ensures.buf_after c.put_message.ensures.place_after) in record { value = w.0; buf_after = w.1 }
+    let w = wrote _ _ a.buf.now c.in_ok-info_fault.ensures (omega (arith, size-message 0xAB a.number a.state a.severity a.message.now a.server_name.now a.proc_name.now a.line_number)) c.in_ok-refusal.ensures c.put_message.ensures.wrote in record { value = w.0; buf_after = search (rules, w.1) }

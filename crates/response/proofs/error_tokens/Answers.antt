@@ -2,11 +2,12 @@
 use native.Mathlib.Omega.{arith}
 use Rattle.token.proofs.Sizes.{size-done, size-message}
 use Rattle.response.proofs.Ends.{faulted, refused, wrote}
-use Rattle.wire.proofs.Over.{then, wrote as wrote_both}
+use Rattle.wire.proofs.Puts.{then}
 use mathlib.Core.List.{[]}
 use lib.ListN.{length-append}
 use Rattle.token.specs.Tokens.{done, message, token_bytes}
 use Rattle.response.specs.Replies.{error_tokens_reply}
+use borrow.Author.Rules.{rules}
 use Rattle.response.proofs.error_tokens.Goals as goal
 
 pub returns-in_err-text_fault : goal.returns-in_err-text_fault
@@ -22,4 +23,4 @@ returns-in_err-refusal c = let a = c.args in
 pub returns : goal.returns
 unfolding error_tokens_reply
 returns c = let a = c.args in
-    let w = wrote _ _ a.buf.now c.in_ok-text_fault.ensures (omega (arith, size-message 0xAA a.number 1 a.severity a.message.now [] [] 1, size-done a.status 0xC1 0, length-append (token_bytes (message 0xAA a.number 1 a.severity a.message.now [] [] 1)) (token_bytes (done a.status 0xC1 0)))) c.in_ok-refusal.ensures (then (wrote_both c.put_message-next.ensures.buf_after c.put_message-next.ensures.place_after) (wrote_both c.put_done.ensures.buf_after c.put_done.ensures.place_after)) in record { value = w.0; buf_after = w.1 }
+    let w = wrote _ _ a.buf.now c.in_ok-text_fault.ensures (omega (arith, size-message 0xAA a.number 1 a.severity a.message.now [] [] 1, size-done a.status 0xC1 0, length-append (token_bytes (message 0xAA a.number 1 a.severity a.message.now [] [] 1)) (token_bytes (done a.status 0xC1 0)))) c.in_ok-refusal.ensures (then c.put_message.ensures c.put_done.ensures).wrote in record { value = w.0; buf_after = search (rules, w.1) }

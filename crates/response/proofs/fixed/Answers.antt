@@ -1,7 +1,7 @@
 -- `response::fixed` meets its contract. Assumes nothing.
 use mathlib.Core.Path.{refl}
 use Rattle.response.proofs.Ends.{refused, wrote}
-use Rattle.wire.proofs.Over.{wrote as wrote_both}
+use borrow.Author.Rules.{rules}
 use Rattle.response.proofs.fixed.Goals as goal
 
 pub returns-in_err-refusal : goal.returns-in_err-refusal
@@ -10,4 +10,4 @@ returns-in_err-refusal c = let a = c.args in
 
 pub returns : goal.returns
 returns c = let a = c.args in
-    let w = wrote _ a.bytes.now a.buf.now refl refl c.in_ok-refusal.ensures (wrote_both c.put_slice.ensures.buf_after c.put_slice.ensures.place_after) in record { value = w.0; buf_after = w.1 }
+    let w = wrote _ a.bytes.now a.buf.now refl refl c.in_ok-refusal.ensures c.put_slice.ensures.wrote in record { value = w.0; buf_after = search (rules, w.1) }

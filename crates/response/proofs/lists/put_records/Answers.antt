@@ -8,7 +8,7 @@ use borrow.Author.Rules.{rules}
 use Rattle.response.proofs.lists.put_records.Goals as goal
 
 pub loop-kind-init : goal.loop-kind-init
-loop-kind-init g c = (search rules, putting-start _ _ _ _ c.put_nothing-place.ensures)
+loop-kind-init g c = (search rules, putting-start _ _ _ c.requires)
 
 pub overflow_add-next : goal.overflow_add-next
 overflow_add-next g c = omega (arith, lies _ _ (sym c.record_at.ensures ∙ c.in-Record.is))
@@ -20,7 +20,7 @@ pub loop-kind-smaller : goal.loop-kind-smaller
 loop-kind-smaller g c = omega (arith, lies _ _ (sym c.record_at.ensures ∙ c.in-Record.is))
 
 pub loop-kind-preserved : goal.loop-kind-preserved
-loop-kind-preserved g c = let e = sym c.record_at.ensures ∙ c.in-Record.is in ((lies _ _ e).1, putting-next _ _ _ _ _ _ _ c.loop-kind.invariant.1 _ _ _ e c.put-place.ensures)
+loop-kind-preserved g c = let e = sym c.record_at.ensures ∙ c.in-Record.is in ((lies _ _ e).1, putting-next _ _ _ _ _ c.loop-kind.invariant.1 _ _ _ e c.put.ensures)
 
 pub returns : goal.returns
-returns g c = putting-stop _ _ _ _ _ _ _ c.loop-kind.invariant.1 c.record_at.result c.record_at.ensures c.in_default.not-Record
+returns g c = putting-stop _ _ _ _ _ c.loop-kind.invariant.1 c.record_at.result c.record_at.ensures c.in_default.not-Record

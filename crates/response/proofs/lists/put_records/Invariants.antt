@@ -6,7 +6,7 @@ use lib.ListN.{length}
 use Rattle.response.proofs.lists.put_records.Given as goal
 
 abbrev pub invariant-loop-kind : goal.invariant-loop-kind
-invariant-loop-kind g l = (l.from ≤ length l.list) × Putting (g.L.Listed.record_bytes l.of) l.list l.initial.buf l.at l.from l.buf l.place
+invariant-loop-kind g l = (l.from ≤ length l.list) × Putting (g.L.Listed.record_bytes l.of) l.list l.initial.w l.from l.w
 
 abbrev pub decreases-loop-kind : goal.decreases-loop-kind
 decreases-loop-kind g l = length l.list - l.from

@@ -4,11 +4,11 @@ use Rattle.wire.specs.Fields.{word, raw, flat}
 use native.Mathlib.Omega.{arith}
 use mathlib.Core.Path.{◌≡◌, ap}
 use lib.ListN.{length}
-use Rattle.wire.proofs.Over.{wrote, wrote_as}
+use Rattle.wire.proofs.Puts.{put_as}
 use Prim.Native.Nat.{ℕ, ◌+◌, ◌%◌}
 use Rattle.wire.specs.Le.{le}
 use mathlib.Core.List.{[], ◌∷◌}
-use Rattle.wire.proofs.Fields.{then-fields}
+use Rattle.wire.proofs.Puts.{then-fields}
 use Rattle.wire.specs.Be.{be}
 use Rattle.text.specs.Surrogates.{utf8_length}
 use Rattle.token.specs.Tokens.{message_length}
@@ -21,6 +21,6 @@ returns c = let m = c.args.text.now in
     let count = ap (λ (n : ℕ). flat (word 2 (n % 65536) ∷ raw m ∷ [])) c.utf8_length-count.ensures in
     let tail = word 1 0 ∷ word 1 0 ∷ word 4 1 ∷ [] in
     then-fields (word 1 0xAA ∷ raw (be 2 (message_length m [] [])) ∷ word 4 50000 ∷ word 1 1 ∷ word 1 16 ∷ []) (word 2 (utf8_length m) ∷ raw m ∷ tail)
-    (rw size at c.put_error_head-a.ensures)
+    (rw size at c.put_error_head.ensures)
     (then-fields (word 2 (utf8_length m) ∷ raw m ∷ []) tail
-    (counted-low (utf8_length m) m (wrote_as c.put_text-b.ensures count)) (wrote c.put_slice.ensures.buf_after c.put_slice.ensures.place_after))
+    (counted-low (utf8_length m) m (put_as c.put_text.ensures count)) c.put_slice.ensures)

@@ -4,11 +4,10 @@ use native.Mathlib.Omega.{arith}
 use mathlib.Core.List.{[]}
 use Rattle.response.proofs.Lengths.{target-size}
 use Rattle.response.specs.Routing.{target}
-use Rattle.wire.proofs.Over.{wrote}
 use Rattle.response.proofs.put.put_plain_route.Goals as goal
 
 pub returns : goal.returns
 returns c = let a = c.args in
     let host = a.host.now in
     let long = target-size host a.port in
-    routed 20 _ (target host a.port []) (omega (arith, long)) c.put_routing_head-a.ensures c.put_target-b.ensures (wrote c.put_u16_le.ensures.buf_after c.put_u16_le.ensures.place_after)
+    routed 20 _ (target host a.port []) (omega (arith, long)) c.put_routing_head.ensures c.put_target.ensures c.put_u16_le.ensures

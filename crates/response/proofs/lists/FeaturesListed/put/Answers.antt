@@ -1,5 +1,5 @@
 -- `response::lists::FeaturesListed::put` meets its contract. Assumes nothing.
-use Rattle.wire.proofs.Over.{wrote, then, wrote_as}
+use Rattle.wire.proofs.Puts.{then, put_as}
 use Rattle.response.proofs.Writing.{alone, low}
 use Rattle.wire.specs.Fields.{flat}
 use Rattle.response.specs.Lists.{feature_bytes}
@@ -14,5 +14,5 @@ pub returns : goal.returns
 unfolding flat feature_bytes
 returns c = let p = c.args.p.now in
     let size : c.left.result % 256 ^ 4 ≡ length (drop 1 p) % 256 ^ 4 = omega (arith, length-drop 1 p) in
-    then (rw c.get_u8.ensures at (wrote c.put_u8-a.ensures.buf_after c.put_u8-a.ensures.place_after))
-    (then (low 4 _ (length (drop 1 p)) size (wrote_as (wrote c.put_u32_le-b.ensures.buf_after c.put_u32_le-b.ensures.place_after) (le-mod 4 _))) (alone (rw c.rest_after.ensures at (wrote c.put_slice.ensures.buf_after c.put_slice.ensures.place_after))))
+    then (rw c.get_u8.ensures at c.put_u8.ensures)
+    (then (low 4 _ (length (drop 1 p)) size (put_as c.put_u32_le.ensures (le-mod 4 _))) (alone (rw c.rest_after.ensures at c.put_slice.ensures)))
