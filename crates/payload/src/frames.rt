@@ -119,7 +119,7 @@ fn packet_at(lent: &[u8], at: usize, number: usize, ended: bool) -> Result<Next,
     };
     Ok(Next {
         len: length - PACKET_HEADER_SIZE,
-        last: PacketStatus::is_end_of_message(PacketStatus(wire::get_u8(rest, 1))),
+        last: PacketStatus(wire::get_u8(rest, 1)).is_end_of_message(),
     })
 }
 
@@ -161,8 +161,7 @@ fn fault_in(rest: &[u8]) -> Refusal
 fn is_part(header: PacketHeader, lent: usize) -> bool
     ensures { result ≡ is_part header lent }
 {
-    let packet_type = header.packet_type;
-    (packet_type.byte() == PacketType::TabularResult.byte())
+    (header.packet_type == PacketType::TabularResult)
         & (9 <= header.length as usize)
         & (header.length as usize <= lent)
 }
