@@ -29,6 +29,7 @@ pub fn marks(capture: &[u8], out: &mut [u64]) -> Result<usize, Refusal>
 }
 
 // Whether the headers length of a body cannot be.
+#[tactic(auto, unfolding(crate::specs::Marks::is_marked))]
 fn is_marked(body: &[u8]) -> bool
     ensures { result ≡ is_marked body.now }
 {
@@ -79,6 +80,7 @@ fn put_marks(capture: &[u8], out: &mut [u64], marked: usize)
 }
 
 // The number of a record at a place of the slots, where it is marked; the place after it.
+#[tactic(auto, unfolding(wire::specs::Over::overwrite))]
 fn put_mark(body: &[u8], number: u64, out: &mut [u64], at: usize) -> usize
     requires { at + length (mark_of number body.now) ≤ length out.old }
     ensures value { result ≡ at + length (mark_of number body.now) }

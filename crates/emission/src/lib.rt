@@ -140,25 +140,19 @@ pub fn run_at(s: &[u8], at: usize, kind: u16) -> Run
         fault: Ok(()),
         next: at,
     };
-    loop {
-        let place = run.next;
-        match script::record_at(s, place) {
-            Found::Record {
-                kind: k,
-                start,
-                len,
-            } => {
-                if k != kind {
-                    return run;
-                }
-                let after = start + len;
-                run = longer(run, kind, &s[start..after], after);
-            }
-            Found::Cut | Found::End => {
-                return run;
-            }
+    while let Found::Record {
+        kind: k,
+        start,
+        len,
+    } = script::record_at(s, run.next)
+    {
+        if k != kind {
+            break;
         }
+        let after = start + len;
+        run = longer(run, kind, &s[start..after], after);
     }
+    run
 }
 
 // A run with one record more.
@@ -182,26 +176,21 @@ pub fn error_in(s: &[u8], at: usize, kind: u16) -> Option<Part>
     ensures result_value { error_found s.now result ≡ error_in kind (records (drop at s.now)) }
 {
     let mut place = at;
-    loop {
-        match script::record_at(s, place) {
-            Found::Record {
-                kind: k,
-                start,
-                len,
-            } => {
-                if k == kind {
-                    return Some(Part { start, len });
-                }
-                if !((k == script::COLUMN) | (k == script::LEADING_ERROR)) {
-                    return None;
-                }
-                place = start + len;
-            }
-            Found::Cut | Found::End => {
-                return None;
-            }
+    while let Found::Record {
+        kind: k,
+        start,
+        len,
+    } = script::record_at(s, place)
+    {
+        if k == kind {
+            return Some(Part { start, len });
         }
+        if !((k == script::COLUMN) | (k == script::LEADING_ERROR)) {
+            break;
+        }
+        place = start + len;
     }
+    None
 }
 
 // What an error and its DONE add to a reply.
@@ -325,19 +314,13 @@ fn sizes_from(s: &[u8], at: usize, before: usize) -> Result<usize, Refusal>
 {
     let mut place = at;
     let mut size = before;
-    loop {
-        match script::record_at(s, place) {
-            Found::Record { kind, start, len } => {
-                let next = start + len;
-                let turn = turn_at(s, kind, &s[start..next], next)?;
-                size = added(size, turn.size);
-                place = turn.next;
-            }
-            Found::Cut | Found::End => {
-                return Ok(grown(size, 13));
-            }
-        }
+    while let Found::Record { kind, start, len } = script::record_at(s, place) {
+        let next = start + len;
+        let turn = turn_at(s, kind, &s[start..next], next)?;
+        size = added(size, turn.size);
+        place = turn.next;
     }
+    Ok(grown(size, 13))
 }
 
 // The size of the sets of a script whose first set has the classification and goes on at next, after bytes before.
@@ -377,17 +360,11 @@ fn reply_size(s: &[u8], classification: &[u8], next: usize) -> Result<usize, Ref
 fn emitted_size(s: &[u8]) -> Result<usize, Refusal>
     ensures { Sizes (walked s.now) 8 result }
 {
-    match script::record_at(s, 0) {
-        Found::Record {
-            kind: _,
-            start,
-            len,
-        } => {
-            let next = start + len;
-            reply_size(s, &s[start..next], next)
-        }
-        Found::Cut | Found::End => Ok(8),
-    }
+    let Found::Record { start, len, .. } = script::record_at(s, 0) else {
+        return Ok(8);
+    };
+    let next = start + len;
+    reply_size(s, &s[start..next], next)
 }
 
 // The exact length of a script's reply, or its refusal, 11 to 17: two passes over its records.

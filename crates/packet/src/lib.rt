@@ -46,6 +46,7 @@ impl TryFrom<u8> for PacketType {
     ghost try_from_gives = { λ b r. r ≡ ok_or (type_of b) UnknownPacketType };
 
     // The packet type that a byte stands for.
+    #[tactic(auto, unfolding(crate::specs::Types::type_of, crate::specs::Types::types, crate::specs::Types::type_in))]
     fn try_from(value: u8) -> Result<Self, Refusal> {
         match value {
             0x01 => Ok(PacketType::SqlBatch),
@@ -186,6 +187,7 @@ pub fn packet_count(size: u16, n: u16) -> usize
 }
 
 // How many bytes these packets have: the payload's, and eight for each header.
+#[tactic(auto, unfolding(crate::specs::Agreed::packets_length))]
 pub fn packets_length(size: u16, n: u16) -> usize
     ensures { result ≡ packets_length size n }
 {
