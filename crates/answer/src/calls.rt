@@ -1,6 +1,6 @@
 // The calls, a function each: it gets the input, and puts its lines after what stands in out.
 use crate::{labels, lines, logins, procedures, replies, requests, scripts};
-use packet::{PacketHeader, PacketStatus, Parsed};
+use packet::{PacketHeader, PacketStatus};
 use std::env::Env;
 use std::io;
 use std::io::Write;
@@ -84,8 +84,8 @@ pub(crate) fn answer(call: Call, input: &[u8], out: &mut impl Write) -> io::Resu
 
 fn answer_header(input: &[u8], out: &mut impl Write) -> io::Result<()> {
     match PacketHeader::parse(input) {
-        Parsed::Header(header) => header_line(header, out),
-        Parsed::Refused(number) => lines::refused(out, number),
+        Ok(header) => header_line(header, out),
+        Err(refusal) => lines::refused(out, refusal),
     }
 }
 
@@ -106,7 +106,7 @@ fn header_line(header: PacketHeader, out: &mut impl Write) -> io::Result<()> {
 }
 
 fn status_words(status: PacketStatus, out: &mut impl Write) -> io::Result<()> {
-    lines::flag(out, b" eom=", PacketStatus::is_end_of_message(status))?;
-    lines::flag(out, b" ignore=", PacketStatus::is_ignore(status))?;
+    lines::flag(out, b" eom=", status.is_end_of_message())?;
+    lines::flag(out, b" ignore=", status.is_ignore())?;
     lines::end(out)
 }

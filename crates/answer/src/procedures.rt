@@ -1,7 +1,7 @@
 // The call that reads a stored procedure call: the number of the asked parameter, then the request.
 use crate::{lines, replies};
 use cells::TypeInfo;
-use rpc::{Asked, Parameter, Procedure, Rpc, Statement};
+use rpc::{Parameter, Procedure};
 use std::io;
 use std::io::Write;
 use wire::Part;
@@ -18,16 +18,13 @@ pub(crate) fn answer(input: &[u8], out: &mut impl Write) -> io::Result<()> {
     };
     let body = wire::part_of(input, rest);
     match rpc::parse_rpc_request(body, number) {
-        Rpc::Call(call) => {
-            let procedure = call.procedure;
-            let statement = call.statement;
-            let asked = call.asked;
-            procedure_line(body, procedure, out)?;
+        Ok(call) => {
+            procedure_line(body, call.procedure, out)?;
             flags_line(call.flags, out)?;
-            statement_line(body, statement, out)?;
-            asked_lines(body, asked, out)
+            statement_line(body, call.statement, out)?;
+            asked_lines(body, call.asked, out)
         },
-        Rpc::Refused(number) => lines::refused(out, number),
+        Err(refusal) => lines::refused(out, refusal),
     }
 }
 
@@ -47,37 +44,33 @@ fn flags_line(flags: u16, out: &mut impl Write) -> io::Result<()> {
 }
 
 // statement START LENGTH HEX, where there is one
-fn statement_line(body: &[u8], statement: Statement, out: &mut impl Write) -> io::Result<()> {
+fn statement_line(body: &[u8], statement: Option<Part>, out: &mut impl Write) -> io::Result<()> {
     match statement {
-        Statement::Value(held) => lines::held_line(out, b"statement", body, held),
-        Statement::Missing => Ok(()),
+        Some(held) => lines::held_line(out, b"statement", body, held),
+        None => Ok(()),
     }
 }
 
 // param START LENGTH HEX status HH type CODE LENGTH COLLATION and the value, or param none
-fn asked_lines(body: &[u8], asked: Asked, out: &mut impl Write) -> io::Result<()> {
+fn asked_lines(body: &[u8], asked: Option<Parameter>, out: &mut impl Write) -> io::Result<()> {
     match asked {
-        Asked::Found(parameter) => parameter_lines(body, parameter, out),
-        Asked::Missing => lines::text(out, b"param none\n"),
+        Some(parameter) => parameter_lines(body, parameter, out),
+        None => lines::text(out, b"param none\n"),
     }
 }
 
 fn parameter_lines(body: &[u8], parameter: Parameter, out: &mut impl Write) -> io::Result<()> {
-    let name = parameter.name;
-    let value = parameter.value;
-    let info = parameter.info;
-    lines::held(out, b"param", body, name)?;
+    lines::held(out, b"param", body, parameter.name)?;
     lines::text(out, b" status")?;
     lines::bytes(out, &[parameter.status])?;
-    type_words(body, info, out)?;
-    replies::cell_line(body, true, value, out)
+    type_words(body, parameter.info, out)?;
+    replies::cell_line(body, true, parameter.value, out)
 }
 
 fn type_words(body: &[u8], info: TypeInfo, out: &mut impl Write) -> io::Result<()> {
-    let collation = info.collation;
     lines::text(out, b" type")?;
     lines::bytes(out, &[info.code])?;
     lines::number(out, info.limit as u64)?;
-    lines::bytes(out, wire::part_of(body, collation))?;
+    lines::bytes(out, wire::part_of(body, info.collation))?;
     lines::end(out)
 }

@@ -1,7 +1,7 @@
 // The calls that take a script.
 use crate::lines;
-use fit::{Fit, Misfit};
-use result::Built;
+use fit::Misfit;
+use refusals::Refusal;
 use std::io;
 use std::io::Write;
 use wire::Part;
@@ -18,7 +18,7 @@ const SIZE: usize = 4;
 pub(crate) fn reply(input: &[u8], out: &mut impl Write) -> io::Result<()> {
     let mut packet = [0u8; PACKET];
     match result::build_query_results(input, &mut packet) {
-        Built::Written(length) => packet_line(
+        Ok(length) => packet_line(
             wire::part_of(
                 &packet,
                 Part {
@@ -28,7 +28,7 @@ pub(crate) fn reply(input: &[u8], out: &mut impl Write) -> io::Result<()> {
             ),
             out,
         ),
-        Built::Refused(number) => lines::refused(out, number),
+        Err(refusal) => lines::refused(out, refusal),
     }
 }
 
@@ -52,14 +52,14 @@ pub(crate) fn packets(input: &[u8], out: &mut impl Write) -> io::Result<()> {
     let size = wire::get_u32_le(input, 0);
     let mut packets = [0u8; PACKETS];
     match result::build_query_results_in_packets(after_size(input), size as usize, &mut packets) {
-        Built::Written(length) => {
+        Ok(length) => {
             let all = Part {
                 start: 0,
                 len: length,
             };
             packet_lines(wire::part_of(&packets, all), size, out)
         }
-        Built::Refused(number) => lines::refused(out, number),
+        Err(refusal) => lines::refused(out, refusal),
     }
 }
 
@@ -88,19 +88,19 @@ pub(crate) fn sized(input: &[u8], out: &mut impl Write) -> io::Result<()> {
     )
 }
 
-fn room_line(room: Built, out: &mut impl Write) -> io::Result<()> {
+fn room_line(room: Result<usize, Refusal>, out: &mut impl Write) -> io::Result<()> {
     match room {
-        Built::Written(n) => lines::number_line(out, b"room", n as u64),
-        Built::Refused(number) => lines::refused(out, number),
+        Ok(n) => lines::number_line(out, b"room", n as u64),
+        Err(refusal) => lines::refused(out, refusal),
     }
 }
 
 // fits, or the line of the first misfit
 pub(crate) fn fit(input: &[u8], out: &mut impl Write) -> io::Result<()> {
     match fit::check(input) {
-        Fit::Yes => lines::text(out, b"fits\n"),
-        Fit::No(misfit) => misfit_line(misfit, out),
-        Fit::Refused(number) => lines::refused(out, number),
+        Ok(None) => lines::text(out, b"fits\n"),
+        Ok(Some(misfit)) => misfit_line(misfit, out),
+        Err(refusal) => lines::refused(out, refusal),
     }
 }
 

@@ -2,9 +2,8 @@
 // `refused N`. It takes no arguments.
 #![tactic(auto)]
 
-use capture_marks::Marked;
 use itoa::Buffer;
-use refusals::INPUT_TOO_LONG;
+use refusals::Refusal;
 use std::io;
 use wire::Part;
 
@@ -35,24 +34,21 @@ fn answer_input(rt: &(impl Input + Print)) -> io::Result<()> {
     if n <= MOST {
         tell(rt, wire::part_of(&input, Part { start: 0, len: n }))
     } else {
-        refused(rt, INPUT_TOO_LONG)
+        refused(rt, Refusal::InputTooLong)
     }
 }
 
 fn tell(rt: &impl Print, capture: &[u8]) -> io::Result<()> {
     let mut numbers = [0u64; MARKS];
     match capture_marks::marks(capture, &mut numbers) {
-        Marked::Count(count) => write_numbers(rt, first(&numbers, count)),
-        Marked::Refused(number) => refused(rt, number),
+        Ok(count) => write_numbers(rt, first(&numbers, count)),
+        Err(refusal) => refused(rt, refusal),
     }
 }
 
 // The first of some numbers.
 fn first(numbers: &[u64], count: usize) -> &[u64] {
-    if count < numbers.len() {
-        return &numbers[..count];
-    }
-    numbers
+    &numbers[..count.min(numbers.len())]
 }
 
 // A line for each number, all at once.
@@ -71,10 +67,10 @@ fn put_numbers(numbers: &[u64], lines: &mut [u8]) -> usize {
 }
 
 // The line `refused N`.
-fn refused(rt: &impl Print, number: u8) -> io::Result<()> {
+fn refused(rt: &impl Print, refusal: Refusal) -> io::Result<()> {
     let mut line = [0u8; 32];
     let at = wire::put_slice(&mut line, 0, b"refused ");
-    let at = put_line(&mut line, at, number as u64);
+    let at = put_line(&mut line, at, refusal.number() as u64);
     write(rt, &line, at)
 }
 

@@ -29,6 +29,7 @@ pub fn marks(capture: &[u8], out: &mut [u64]) -> Result<usize, Refusal>
 }
 
 // Whether the headers length of a body cannot be.
+#[tactic(auto, unfolding(crate::specs::Marks::is_marked))]
 fn is_marked(body: &[u8]) -> bool
     ensures { result ≡ is_marked body.now }
 {
@@ -43,12 +44,8 @@ fn count_marks(capture: &[u8]) -> Result<usize, Refusal>
     let mut count: usize = 0;
     loop {
         match script::record_at(capture, at) {
-            Found::Cut => {
-                return Err(Refusal::RecordCut);
-            }
-            Found::End => {
-                return Ok(count);
-            }
+            Found::Cut => return Err(Refusal::RecordCut),
+            Found::End => return Ok(count),
             Found::Record { kind, start, len } => {
                 if kind != REQUEST_BODY {
                     return Err(Refusal::KindWrong);
@@ -73,24 +70,17 @@ fn put_marks(capture: &[u8], out: &mut [u64], marked: usize)
     let mut number: u64 = 0;
     let mut count: usize = 0;
     while count < marked {
-        match script::record_at(capture, at) {
-            Found::Cut | Found::End => {
-                return;
-            }
-            Found::Record {
-                kind: _,
-                start,
-                len,
-            } => {
-                at = start + len;
-                count = put_mark(&capture[start..at], number, out, count);
-                number += 1;
-            }
-        }
+        let Found::Record { start, len, .. } = script::record_at(capture, at) else {
+            return;
+        };
+        at = start + len;
+        count = put_mark(&capture[start..at], number, out, count);
+        number += 1;
     }
 }
 
 // The number of a record at a place of the slots, where it is marked; the place after it.
+#[tactic(auto, unfolding(wire::specs::Over::overwrite))]
 fn put_mark(body: &[u8], number: u64, out: &mut [u64], at: usize) -> usize
     requires { at + length (mark_of number body.now) ≤ length out.old }
     ensures value { result ≡ at + length (mark_of number body.now) }

@@ -1,7 +1,7 @@
 -- The cases of document 01 that are marked P ('Cases', 1 to 11; 1 to 3 as request 2026-03 changes them): one table of calls and what
 -- they answer, and the statement that the definitions give these answers. Rests on the definitions of request, result and response that
 -- answer the calls.
-use Rattle.std.specs.Prelude.{◌≡◌, cond, List, [], ◌∷◌, ◌++◌, map, ℕ, eqb}
+use Rattle.std.specs.Prelude.{◌≡◌, Option, Some, None, Result, Ok, Err, cond, List, [], ◌∷◌, ◌++◌, map, ℕ, eqb}
 use Rattle.wire.specs.declared.Part.{Part}
 use Rattle.wire.specs.Le.{le_at}
 use Rattle.wire.specs.Be.{be}
@@ -9,14 +9,7 @@ use Rattle.wire.specs.Part.{part_bytes}
 use Rattle.request.specs.Batch.{sql_batch}
 use Rattle.request.specs.Transaction.{transaction_request, transaction_descriptor}
 use Rattle.request.specs.FedAuth.{fed_auth_token}
-use Rattle.request.specs.declared.Batch.{Batch}
-use Rattle.request.specs.declared.Batch.TheVariants.{Text, Refused as BatchRefused}
-use Rattle.request.specs.declared.TransactionRequest.{TransactionRequest}
-use Rattle.request.specs.declared.TransactionRequest.TheVariants.{RequestType, Refused as RequestRefused}
 use Rattle.request.specs.declared.Descriptor.{Descriptor}
-use Rattle.request.specs.declared.Descriptor.TheVariants.{Found, Missing}
-use Rattle.request.specs.declared.FedAuthToken.{FedAuthToken}
-use Rattle.request.specs.declared.FedAuthToken.TheVariants.{Bytes, Refused as TokenRefused}
 use Rattle.emission.specs.Emission.{reply_of}
 use Rattle.emission.specs.Refusal.{refusal_of}
 use Rattle.response.specs.Answer.{Reply, reply}
@@ -48,29 +41,26 @@ part_of s p = part p.start (part_bytes s p)
 abbrev of_reply : Reply → Answer
 of_reply (reply n xs) = or_refused n xs
 
-abbrev of_batch : List ℕ → Batch → Answer
-of_batch s (Text p) = part_of s p
-of_batch s (BatchRefused n) = refused n
+-- a part, or a refusal
+abbrev of_part : List ℕ → Result Part ℕ → Answer
+of_part s (Ok p) = part_of s p
+of_part s (Err n) = refused n
 
-abbrev of_request : TransactionRequest → Answer
-of_request (RequestType n) = type n
-of_request (RequestRefused n) = refused n
+abbrev of_request : Result ℕ ℕ → Answer
+of_request (Ok n) = type n
+of_request (Err n) = refused n
 
-abbrev of_descriptor : Descriptor → Answer
-of_descriptor (Found d n) = found d n
-of_descriptor Missing = none
-
-abbrev of_token : List ℕ → FedAuthToken → Answer
-of_token s (Bytes p) = part_of s p
-of_token s (TokenRefused n) = refused n
+abbrev of_descriptor : Option Descriptor → Answer
+of_descriptor (Some d) = found d.descriptor d.count
+of_descriptor None = none
 
 -- a call's answer by the definitions that the contracts of the functions name
 unfoldable pub answer : Call → Answer
 answer (script s) = or_refused (refusal_of s) (reply_of s)
-answer (batch s) = of_batch s (sql_batch s)
+answer (batch s) = of_part s (sql_batch s)
 answer (transaction s) = of_request (transaction_request s)
 answer (descriptor s) = of_descriptor (transaction_descriptor s)
-answer (token s) = of_token s (fed_auth_token s)
+answer (token s) = of_part s (fed_auth_token s)
 answer (error s) = of_reply (error_reply s)
 answer attention = of_reply attention_reply
 answer (transaction_done n) = of_reply (transaction_reply n)

@@ -12,7 +12,7 @@ ghost use Rattle.payload.specs.Frames.{source_from};
 ghost use Rattle.payload.specs.Answers.{number_read, Below};
 ghost use Rattle.cells.specs.Cells.{is_code, is_type, type_at, integer_at, bounded_at, is_chunk, is_last, chunk_at, chunks_at, max_at, cell_at};
 ghost use Rattle.cells.specs.Answers.{type_read, cell_read, chunks_read};
-ghost use Rattle.cells.specs.Code.{chunk_read, sign_of};
+ghost use Rattle.cells.specs.Code.{chunk_read};
 
 use payload::frames::{Frame, frame_at};
 use payload::{NumberAt, part_at, u8_at, u16_at, u32_at, u64_at};
@@ -86,6 +86,7 @@ pub fn type_at(lent: &[u8], frame: Frame, at: usize) -> Result<TypeAt, Refusal>
     })
 }
 
+#[tactic(auto, unfolding(crate::specs::Cells::is_code))]
 fn is_code(code: u8) -> bool
     ensures { result ≡ is_code code }
 {
@@ -199,21 +200,9 @@ fn signed_number(width: usize, n: u64) -> i64
 {
     match width {
         1 => n as i64,
-        2 => with_sign(n, 0x8000),
-        4 => with_sign(n, 0x8000_0000),
-        _ => with_sign(n, 0x8000_0000_0000_0000),
-    }
-}
-
-// A number of a width with its sign: from half of the width's numbers on it is below zero.
-fn with_sign(n: u64, half: u64) -> i64
-    requires { (n < half + half) × (half ≤ 2 ^ 63) }
-    ensures { result ≡ sign_of half n }
-{
-    if n < half {
-        n as i64
-    } else {
-        -1 - (half - 1 - (n - half)) as i64
+        2 => (n as u16).cast_signed() as i64,
+        4 => (n as u32).cast_signed() as i64,
+        _ => n.cast_signed(),
     }
 }
 
@@ -358,12 +347,14 @@ fn chunk_at(
 }
 
 // Whether a chunk of n bytes can stand where left bytes are to come, and whether the last can.
+#[tactic(auto, unfolding(crate::specs::Cells::is_chunk))]
 fn is_chunk(text: bool, known: bool, left: usize, n: usize) -> bool
     ensures { result ≡ is_chunk text known left n }
 {
     ((n % 2 == 0) | !text) & ((n <= left) | !known)
 }
 
+#[tactic(auto, unfolding(crate::specs::Cells::is_last))]
 fn is_last(known: bool, left: usize) -> bool
     ensures { result ≡ is_last known left }
 {

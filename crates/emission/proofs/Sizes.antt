@@ -63,9 +63,9 @@ first-of-three zero a b = refl
 first-of-three (suc f) a b = rw (eqb-suc-zero f, eqb-suc-zero f)
 
 -- two refusals, one after the other
-pub first-refused : (a b : Result ⊤ Refusal) → refused_by (result_and a b) ≡ cond (eqb (refused_by a) 0) (refused_by b) (refused_by a)
-first-refused (Ok tt) b = refl
-first-refused (Err r) b = rw (ne_eqb (number r) 0 (number-not-0 r))
+pub first_refused : (a b : Result ⊤ Refusal) → refused_by (result_and a b) ≡ cond (eqb (refused_by a) 0) (refused_by b) (refused_by a)
+first_refused (Ok tt) b = refl
+first_refused (Err r) b = rw (ne_eqb (number r) 0 (number-not-0 r))
 
 -- the first fault of two names
 pub first-name : (a b : List ℕ) → cond (eqb (name_fault a) 0) (name_fault b) (name_fault a) ≡ cond (long_name a || long_name b) name_too_long 0

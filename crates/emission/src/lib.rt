@@ -43,6 +43,7 @@ struct Turn {
 }
 
 // A size and more, up to 65,536.
+#[tactic(auto, unfolding(crate::specs::Runs::capped))]
 fn grown(size: usize, more: usize) -> usize
     ensures { result ≡ capped (size + more) }
 {
@@ -50,6 +51,7 @@ fn grown(size: usize, more: usize) -> usize
 }
 
 // A size and more, neither over 65,536.
+#[tactic(auto, unfolding(crate::specs::Runs::capped))]
 fn added(size: usize, more: usize) -> usize
     requires { (size ≤ 65536) × (more ≤ 65536) }
     ensures { result ≡ capped (size + more) }
@@ -103,6 +105,7 @@ fn column_fault(p: &[u8]) -> Result<(), Refusal>
 }
 
 // What a column or a chunk adds to a reply, and its fault.
+#[tactic(auto, unfolding(crate::specs::Runs::record_size))]
 fn record_size(kind: u16, p: &[u8]) -> usize
     ensures { result ≡ capped (record_size kind p.now) }
 {
@@ -112,6 +115,7 @@ fn record_size(kind: u16, p: &[u8]) -> usize
     grown(4, p.len())
 }
 
+#[tactic(auto, unfolding(crate::specs::Runs::record_fault))]
 fn record_fault(kind: u16, p: &[u8]) -> Result<(), Refusal>
     ensures { refused_by result ≡ record_fault kind p.now }
 {
@@ -136,28 +140,23 @@ pub fn run_at(s: &[u8], at: usize, kind: u16) -> Run
         fault: Ok(()),
         next: at,
     };
-    loop {
-        let place = run.next;
-        match script::record_at(s, place) {
-            Found::Record {
-                kind: k,
-                start,
-                len,
-            } => {
-                if k != kind {
-                    return run;
-                }
-                let after = start + len;
-                run = longer(run, kind, &s[start..after], after);
-            }
-            Found::Cut | Found::End => {
-                return run;
-            }
+    while let Found::Record {
+        kind: k,
+        start,
+        len,
+    } = script::record_at(s, run.next)
+    {
+        if k != kind {
+            break;
         }
+        let after = start + len;
+        run = longer(run, kind, &s[start..after], after);
     }
+    run
 }
 
 // A run with one record more.
+#[tactic(auto, using(crate::proofs::Sizes::first_refused), unfolding(crate::specs::Inner::longer_run))]
 fn longer(run: Run, kind: u16, p: &[u8], next: usize) -> Run
     requires { (run.count + 1 < 2 ^ 64) × (run.bytes + length p.now < 2 ^ 64) }
     ensures { numbered_run result ≡ longer_run (numbered_run run) kind p.now next }
@@ -177,26 +176,21 @@ pub fn error_in(s: &[u8], at: usize, kind: u16) -> Option<Part>
     ensures result_value { error_found s.now result ≡ error_in kind (records (drop at s.now)) }
 {
     let mut place = at;
-    loop {
-        match script::record_at(s, place) {
-            Found::Record {
-                kind: k,
-                start,
-                len,
-            } => {
-                if k == kind {
-                    return Some(Part { start, len });
-                }
-                if !((k == script::COLUMN) | (k == script::LEADING_ERROR)) {
-                    return None;
-                }
-                place = start + len;
-            }
-            Found::Cut | Found::End => {
-                return None;
-            }
+    while let Found::Record {
+        kind: k,
+        start,
+        len,
+    } = script::record_at(s, place)
+    {
+        if k == kind {
+            return Some(Part { start, len });
         }
+        if !((k == script::COLUMN) | (k == script::LEADING_ERROR)) {
+            break;
+        }
+        place = start + len;
     }
+    None
 }
 
 // What an error and its DONE add to a reply.
@@ -303,6 +297,7 @@ fn turn_at(s: &[u8], kind: u16, p: &[u8], next: usize) -> Result<Turn, Refusal>
 }
 
 // A turn after the DONE of the set before.
+#[tactic(auto, unfolding(crate::specs::Inner::after_done))]
 fn ended_turn(t: Turn) -> Turn
     ensures { result ≡ after_done t }
 {
@@ -319,19 +314,13 @@ fn sizes_from(s: &[u8], at: usize, before: usize) -> Result<usize, Refusal>
 {
     let mut place = at;
     let mut size = before;
-    loop {
-        match script::record_at(s, place) {
-            Found::Record { kind, start, len } => {
-                let next = start + len;
-                let turn = turn_at(s, kind, &s[start..next], next)?;
-                size = added(size, turn.size);
-                place = turn.next;
-            }
-            Found::Cut | Found::End => {
-                return Ok(grown(size, 13));
-            }
-        }
+    while let Found::Record { kind, start, len } = script::record_at(s, place) {
+        let next = start + len;
+        let turn = turn_at(s, kind, &s[start..next], next)?;
+        size = added(size, turn.size);
+        place = turn.next;
     }
+    Ok(grown(size, 13))
 }
 
 // The size of the sets of a script whose first set has the classification and goes on at next, after bytes before.
@@ -371,17 +360,11 @@ fn reply_size(s: &[u8], classification: &[u8], next: usize) -> Result<usize, Ref
 fn emitted_size(s: &[u8]) -> Result<usize, Refusal>
     ensures { Sizes (walked s.now) 8 result }
 {
-    match script::record_at(s, 0) {
-        Found::Record {
-            kind: _,
-            start,
-            len,
-        } => {
-            let next = start + len;
-            reply_size(s, &s[start..next], next)
-        }
-        Found::Cut | Found::End => Ok(8),
-    }
+    let Found::Record { start, len, .. } = script::record_at(s, 0) else {
+        return Ok(8);
+    };
+    let next = start + len;
+    reply_size(s, &s[start..next], next)
 }
 
 // The exact length of a script's reply, or its refusal, 11 to 17: two passes over its records.

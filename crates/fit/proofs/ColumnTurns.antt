@@ -1,4 +1,5 @@
 -- A turn of the walk over a set's columns: their types are those put down and those of the columns from here on. Assumes nothing.
+use Rattle.std.specs.Prelude.{Some, None}
 use Prim.Native.Nat.{ℕ, ◌+◌, ◌-◌, ◌≤◌, ◌<◌}
 use mathlib.Core.Path.{◌≡◌, refl, sym, ap, ◌∙◌}
 use mathlib.Core.Bool.{true, false}
@@ -17,7 +18,6 @@ use Rattle.script.proofs.Walk.{turn, cuts, ends}
 use Rattle.script.specs.Runs.{ahead}
 use Rattle.fit.specs.Misfits.{wrong_columns, types_in}
 use Rattle.fit.specs.Walks.{Skips, ColumnsWalked}
-use Rattle.fit.specs.declared.Columns.{Columns}
 use Rattle.fit.proofs.Skip.{skips-none, skips-one}
 
 -- ---- the columns ahead
@@ -72,7 +72,7 @@ module _ (s : List ℕ) (from at c : ℕ) (types : List ℕ) (left : Left s from
   all : length (ahead 2 (records (drop from s))) ≡ c + length (ahead 2 (records (drop at s)))
   all = counted types c (ahead 2 (records (drop at s))) (ahead 2 (records (drop from s))) (omega (arith, left.0, left.1)) left.2
 
-  pub columns-ended : ahead 2 (records (drop at s)) ≡ [] → ColumnsWalked s from types (Columns.Right c at)
+  pub columns-ended : ahead 2 (records (drop at s)) ≡ [] → ColumnsWalked s from types (Some (record { count = c; next = at }))
   unfolding wrong_columns types_in
   columns-ended h =
       let few : length (ahead 2 (records (drop from s))) ≤ 128 = omega (arith, all, ap length h, left.1) in
@@ -80,7 +80,7 @@ module _ (s : List ℕ) (from at c : ℕ) (types : List ℕ) (left : Left s from
 
   -- a column
   module _ {st n : ℕ} (e : record_at s at ≡ Record 2 st n) where
-    pub columns-many : 128 ≤ c → ColumnsWalked s from types Columns.TooMany
+    pub columns-many : 128 ≤ c → ColumnsWalked s from types None
     unfolding wrong_columns
     columns-many h =
         let many : 128 < length (ahead 2 (records (drop from s))) = omega (arith, all, ap length (columns-one s at e refl)) in

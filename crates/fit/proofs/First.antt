@@ -1,4 +1,5 @@
 -- The misfits of a script stand in the order of document 02, so that the fit check's answer is the first. Assumes nothing.
+use Rattle.std.specs.Prelude.{Option, Some, None, Ok}
 use Prim.Native.Nat.{ℕ, suc, ◌+◌, ◌<◌}
 use mathlib.Core.Path.{◌≡◌, refl, sym, ap, ◌∙◌}
 use mathlib.Core.Bool.{true, false, Bool-set}
@@ -18,7 +19,6 @@ use Rattle.script.specs.Sets.{ScriptCell, ScriptRow, ScriptSet, sets_in}
 use Rattle.emission.specs.Refusal.{refusal_of}
 use Rattle.fit.specs.declared.Misfit.{Misfit}
 use Rattle.fit.specs.declared.Misfit.TheVariants.{Classification, Column, Cell}
-use Rattle.fit.specs.declared.Fit.TheVariants.{Yes, No}
 use Rattle.fit.specs.Misfits.{cell_fits, wrong_cells, wrong_in_row, wrong_columns, types_in}
 use Rattle.fit.specs.Misfits.{classification_misfits, row_misfits, rows_misfits, set_misfits, sets_misfits, unless, misfits, first_of, fit_of}
 use Rattle.fit.specs.First.{place, earlier, before, FirstMisfit, FirstAnswered, FitsWithout}
@@ -164,11 +164,11 @@ in-turn (s ∷ ss) = kept s.terminal
 -- ---- the first of misfits in order
 
 module _ (m : Misfit) where
-  first-has : (ms : List Misfit) → first_of ms ≡ No m → Mem m ms
+  first-has : (ms : List Misfit) → first_of ms ≡ Some m → Mem m ms
   first-has [] e = clash (cc)
   first-has (x ∷ ms) e = let q : m ≡ x = cc in ∣ Memᴰ.head q ∣₁
 
-  first-least : (ms : List Misfit) → Pairwise Before ms → first_of ms ≡ No m → (o : Misfit) → Mem o ms → before o m ≡ false
+  first-least : (ms : List Misfit) → Pairwise Before ms → first_of ms ≡ Some m → (o : Misfit) → Mem o ms → before o m ≡ false
   unfolding before
   first-least [] p e o h = clash (cc)
   first-least (x ∷ ms) p e o h =
@@ -178,7 +178,7 @@ module _ (m : Misfit) where
         | inr f ↦ not_back (place m) (place o) (rw q at (rel_of_Pairwise-cons p ∣ f ∣₁))
       ])
 
-  least_first : (ms : List Misfit) → Pairwise Before ms → Mem m ms → ((o : Misfit) → Mem o ms → before o m ≡ false) → first_of ms ≡ No m
+  least_first : (ms : List Misfit) → Pairwise Before ms → Mem m ms → ((o : Misfit) → Mem o ms → before o m ≡ false) → first_of ms ≡ Some m
   unfolding before
   least_first [] p h f = absurd (not-mem-nil h)
   least_first (x ∷ ms) p h f =
@@ -186,14 +186,14 @@ module _ (m : Misfit) where
         | inl e ↦ rw e (not-self (place x))
         | inr e ↦ not_back (place x) (place m) (rel_of_Pairwise-cons p ∣ e ∣₁)
       ]) in
-      ap No (in_order.2 x m (f x ∣ Memᴰ.head refl ∣₁) back)
+      ap Some (in_order.2 x m (f x ∣ Memᴰ.head refl ∣₁) back)
 
 -- ---- of a script
 
 module _ (s : List ℕ) where
-  answered : {m : Misfit} → fit_of s ≡ No m → first_of (misfits (sets_in (records s))) ≡ No m
+  answered : {m : Misfit} → fit_of s ≡ Ok (Some m) → first_of (misfits (sets_in (records s))) ≡ Some m
   unfolding fit_of
-  answered e = by-test (eqb (refusal_of s) 0) (λ h. rw h at e) (λ h. let c = rw h at e in clash (cc))
+  answered e = by-test (eqb (refusal_of s) 0) (λ h. let c = rw h at e in cc) (λ h. let c = rw h at e in clash (cc))
 
 pub first-misfit : FirstMisfit
 first-misfit s m e =
@@ -202,11 +202,11 @@ first-misfit s m e =
 
 pub first-answered : FirstAnswered
 unfolding fit_of
-first-answered s m e h = rw e (least_first m (misfits (sets_in (records s))) (in-turn (sets_in (records s))) h.0 h.1)
+first-answered s m e h = rw e (ap (λ (o : Option Misfit). Ok o) (least_first m (misfits (sets_in (records s))) (in-turn (sets_in (records s))) h.0 h.1))
 
 -- ---- a script that fits
 
-none-there : (ms : List Misfit) → first_of ms ≡ Yes → (m : Misfit) → Mem m ms → ⊥
+none-there : (ms : List Misfit) → first_of ms ≡ None → (m : Misfit) → Mem m ms → ⊥
 none-there [] e m h = not-mem-nil h
 none-there (x ∷ ms) e m h = clash (cc)
 
@@ -214,5 +214,5 @@ pub fits-without : FitsWithout
 unfolding fit_of
 fits-without s e =
     by-test (eqb (refusal_of s) 0)
-    (λ h. none-there (misfits (sets_in (records s))) (rw h at e))
+    (λ h. let c = rw h at e in none-there (misfits (sets_in (records s))) (cc))
     (λ h. let c = rw h at e in clash (cc))

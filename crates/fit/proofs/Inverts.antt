@@ -1,5 +1,6 @@
 -- What it says of a script's records that they have no misfit (document 01, 'A script fits if ..'): each set's classification
 -- is empty, it has at most 128 columns, and each row has a cell for each of its columns, one at least, of the column's type. Assumes nothing.
+use Rattle.std.specs.Prelude.{None, Ok}
 use Prim.Native.Nat.{ℕ, suc, ◌≤◌, ◌<◌}
 use mathlib.Core.Path.{◌≡◌, refl, ◌∙◌}
 use mathlib.Core.Bool.{Bool, true, false, cond, and-eq-true_iff, ◌&&◌}
@@ -22,7 +23,6 @@ use Rattle.fit.specs.Misfits.{cell_fits, wrong_cells, wrong_in_row, wrong_column
 use Rattle.fit.specs.Records.{cells_in, begin_misfits, cell_misfits, misfits_at, misfits_from, sets_from, terminal, misfits_in}
 use Rattle.fit.specs.declared.Misfit.{Misfit}
 use Rattle.fit.specs.declared.Misfit.TheVariants.{Column, Cell}
-use Rattle.fit.specs.declared.Fit.TheVariants.{Yes, Refused}
 
 -- ---- lists and tests
 
@@ -158,14 +158,16 @@ pub fits-first : (k : ℕ) (p : List ℕ) (rs : List Item) → misfits_in (item 
 unfolding misfits_in terminal sets_from
 fits-first k p rs e h = both-empty (begin_misfits 0 p rs) (misfits_from 0 0 (types_in (ahead 2 rs)) rs) (rw h at e)
 
-none_first : (ms : List Misfit) → first_of ms ≡ Yes → ms ≡ []
+none_first : (ms : List Misfit) → first_of ms ≡ None → ms ≡ []
 none_first [] e = refl
 none_first (m ∷ ms) e = let z : ◌≡◌ {A = ℕ} 0 1 = cc in absurd (omega arith)
 
 -- what the fit check's yes says
-pub fits-yes : (s : List ℕ) → fit_of s ≡ Yes → (refusal_of s ≡ 0) × (misfits_in (records s) ≡ [])
+pub fits-yes : (s : List ℕ) → fit_of s ≡ Ok None → (refusal_of s ≡ 0) × (misfits_in (records s) ≡ [])
 unfolding fit_of
 fits-yes s e =
     by-test (eqb (refusal_of s) 0)
-    (λ h. let r = eqb-true (refusal_of s) 0 h in (r, none_first (misfits_in (records s)) (rw (h, by-sets s (no-verdict s r)) at e)))
-    (λ h. let c : ◌≡◌ (Refused (refusal_of s)) Yes = rw h at e in let z : ◌≡◌ {A = ℕ} 0 1 = cc in absurd (omega arith))
+    (λ h. let r = eqb-true (refusal_of s) 0 h in
+    let c = rw (h, by-sets s (no-verdict s r)) at e in
+    (r, none_first (misfits_in (records s)) (cc)))
+    (λ h. let c = rw h at e in let z : ◌≡◌ {A = ℕ} 0 1 = cc in absurd (omega arith))

@@ -1,5 +1,6 @@
 -- A turn of the walk over a row's cells. What is left of the row's misfits is what the cells from here on have against the
 -- columns that are left. Assumes nothing.
+use Rattle.std.specs.Prelude.{Result, Err}
 use Prim.Native.Nat.{ℕ, suc, ◌+◌, ◌-◌, ◌<◌}
 use mathlib.Core.Path.{◌≡◌, refl, sym, ap, ◌∙◌}
 use mathlib.Core.Bool.{Bool, true≢false, true, false}
@@ -18,7 +19,6 @@ use Rattle.script.proofs.Walk.{turn, cuts, ends}
 use Rattle.fit.specs.Misfits.{cell_fits, wrong_cells, wrong_in_row}
 use Rattle.fit.specs.Records.{cells_in}
 use Rattle.fit.specs.Walks.{Skips, First, cell_wrong, row_end, RowWalked}
-use Rattle.fit.specs.declared.Row.{Row}
 use Rattle.fit.proofs.Skip.{skips-none, skips-one}
 
 -- ---- the cells ahead
@@ -74,7 +74,7 @@ abbrev pub Left : List ℕ → ℕ → List ℕ → ℕ → ℕ → Type 0
 Left s from types at c =
     (wrong_cells c (drop c types) (cells_in (records (drop at s))) ≡ wrong_in_row types (cells_in (records (drop from s)))) × Skips s from at
 
-pub row-none : (s : List ℕ) (from : ℕ) (types : List ℕ) → length types ≡ 0 → RowWalked s from types (Row.Wrong 0)
+pub row-none : (s : List ℕ) (from : ℕ) (types : List ℕ) → length types ≡ 0 → RowWalked s from types (Err 0)
 unfolding wrong_in_row
 row-none s from [] h = ([], refl)
 row-none s from (t ∷ ts) h = absurd (omega arith)
@@ -94,7 +94,7 @@ module _ (s : List ℕ) (from : ℕ) (types : List ℕ) (at c : ℕ) (left : Lef
         | no g ↦ let g' = lt_of_not-le g in rw (lt-ltb c (length types) g') ([], sym l ∙ rw (drop-cons types c 0 g'))
       ]
 
-  pub row-ended : {r : Row} → cells_in (records (drop at s)) ≡ [] → r ≡ row_end c (length types) at → RowWalked s from types r
+  pub row-ended : {r : Result ℕ ℕ} → cells_in (records (drop at s)) ≡ [] → r ≡ row_end c (length types) at → RowWalked s from types r
   row-ended h e = rw e (row-end h)
 
   pub row-chunk : {st n : ℕ} → record_at s at ≡ Record 6 st n → Left s from types (st + n) c
@@ -105,7 +105,7 @@ module _ (s : List ℕ) (from : ℕ) (types : List ℕ) (at c : ℕ) (left : Lef
     tested : w ≡ cell_wrong (drop c types) (take n (drop st s))
     tested = rw (add-sub_cancel_left st n) at g
 
-    pub row-wrong : w ≡ true → RowWalked s from types (Row.Wrong c)
+    pub row-wrong : w ≡ true → RowWalked s from types (Err c)
     row-wrong h =
         let f = wrong-cell c (drop c types) (take n (drop st s)) (cells_in (records (drop (st + n) s))) (sym tested ∙ h) in
         (f.0, sym left.0 ∙ ap (wrong_cells c (drop c types)) (cells-cell s at e refl) ∙ f.1)

@@ -1,6 +1,6 @@
 -- Which misfit of a script is its first (document 02, 2026-06): 'by set; within a set the classification, then columns, then cells by
 -- row and column'. The order is that of the misfits themselves, in whatever list they stand. Rests on Misfits.
-use Rattle.std.specs.Prelude.{ℕ, ◌≡◌, Bool, true, false, cond, eqb, ltb}
+use Rattle.std.specs.Prelude.{Some, None, Ok, ℕ, ◌≡◌, Bool, true, false, cond, eqb, ltb}
 use mathlib.Core.List.{List, [], ◌∷◌, Mem}
 use Rattle.script.specs.Records.{records}
 use Rattle.script.specs.Sets.{sets_in}
@@ -8,7 +8,6 @@ use Rattle.emission.specs.Refusal.{refusal_of}
 use Rattle.fit.specs.Misfits.{misfits, fit_of}
 use Rattle.fit.specs.declared.Misfit.{Misfit}
 use Rattle.fit.specs.declared.Misfit.TheVariants.{Classification, Column, Cell}
-use Rattle.fit.specs.declared.Fit.TheVariants.{Yes, No}
 
 -- ---- the order
 
@@ -48,12 +47,12 @@ IsFirst s m = Has s m × ((o : Misfit) → Has s o → before o m ≡ false)
 
 -- the fit check answers the first misfit
 abbrev pub FirstMisfit : Type 0
-FirstMisfit = (s : List ℕ) (m : Misfit) → fit_of s ≡ No m → IsFirst s m
+FirstMisfit = (s : List ℕ) (m : Misfit) → fit_of s ≡ Ok (Some m) → IsFirst s m
 
 -- the other way: a script that is not refused and has a first misfit is answered with it
 abbrev pub FirstAnswered : Type 0
-FirstAnswered = (s : List ℕ) (m : Misfit) → refusal_of s ≡ 0 → IsFirst s m → fit_of s ≡ No m
+FirstAnswered = (s : List ℕ) (m : Misfit) → refusal_of s ≡ 0 → IsFirst s m → fit_of s ≡ Ok (Some m)
 
 -- a script that fits has none
 abbrev pub FitsWithout : Type 0
-FitsWithout = (s : List ℕ) → fit_of s ≡ Yes → (m : Misfit) → Has s m → ⊥
+FitsWithout = (s : List ℕ) → fit_of s ≡ Ok None → (m : Misfit) → Has s m → ⊥

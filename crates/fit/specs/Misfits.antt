@@ -1,15 +1,13 @@
 -- Which scripts fit, and which misfits the others have (document 01, 'The script': 'fits' and 'misfit' are its terms). Sets,
 -- rows, columns and cells are numbered from 0. Rests on script's sets and emission's refusals.
 -- docs/FORMATS.md, 'What fits', has it in words.
-use Rattle.std.specs.Prelude.{ℕ, suc, List, [], ◌∷◌, ◌++◌, map, Bool, cond, ◌&&◌, eqb, leb, length, drop}
+use Rattle.std.specs.Prelude.{Option, Some, None, Result, Ok, Err, ℕ, suc, List, [], ◌∷◌, ◌++◌, map, Bool, cond, ◌&&◌, eqb, leb, length, drop}
 use Rattle.wire.specs.Le.{le_at}
 use Rattle.script.specs.Records.{records}
 use Rattle.script.specs.Sets.{ScriptCell, ScriptRow, ScriptSet, sets_in}
 use Rattle.emission.specs.Refusal.{refusal_of}
 use Rattle.fit.specs.declared.Misfit.{Misfit}
 use Rattle.fit.specs.declared.Misfit.TheVariants.{Classification, Column, Cell}
-use Rattle.fit.specs.declared.Fit.{Fit}
-use Rattle.fit.specs.declared.Fit.TheVariants.{Yes, No, Refused}
 
 -- ---- cells
 
@@ -84,11 +82,11 @@ unfoldable pub misfits : List ScriptSet → List Misfit
 misfits [] = []
 misfits (s ∷ ss) = unless s.terminal (sets_misfits 0 (s ∷ ss))
 
--- yes where there is none, else no with the first of the list, which is the first in document 02's order (First)
-abbrev pub first_of : List Misfit → Fit
-first_of [] = Yes
-first_of (m ∷ ms) = No m
+-- the first of the list, which is the first in document 02's order (First); none where there is none
+abbrev pub first_of : List Misfit → Option Misfit
+first_of [] = None
+first_of (m ∷ ms) = Some m
 
--- what the fit check answers: the script's own refusal, 11 to 17; else whether it fits
-unfoldable pub fit_of : List ℕ → Fit
-fit_of s = cond (eqb (refusal_of s) 0) (first_of (misfits (sets_in (records s)))) (Refused (refusal_of s))
+-- what the fit check answers: the script's own refusal, 11 to 17; else its first misfit, none where it fits
+unfoldable pub fit_of : List ℕ → Result (Option Misfit) ℕ
+fit_of s = cond (eqb (refusal_of s) 0) (Ok (first_of (misfits (sets_in (records s))))) (Err (refusal_of s))

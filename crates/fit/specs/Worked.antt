@@ -1,5 +1,5 @@
 -- Misfits in their order, and scripts with what the fit check answers, smallest inputs first. Rests on Misfits and First.
-use Rattle.std.specs.Prelude.{ℕ, ◌+◌, ◌≡◌, Bool, true, not, ◌&&◌, List, [], ◌∷◌, ◌++◌, map, length, replicate}
+use Rattle.std.specs.Prelude.{Option, Some, None, Result, Ok, Err, ℕ, ◌+◌, ◌≡◌, Bool, true, not, ◌&&◌, List, [], ◌∷◌, ◌++◌, map, length, replicate}
 use Rattle.wire.specs.Le.{le}
 use Rattle.wire.specs.Be.{be}
 use Rattle.token.specs.Tokens.{joined}
@@ -7,8 +7,6 @@ use Rattle.script.specs.Records.{records}
 use Rattle.script.specs.Sets.{sets_in}
 use Rattle.fit.specs.declared.Misfit.{Misfit}
 use Rattle.fit.specs.declared.Misfit.TheVariants.{Classification, Column, Cell}
-use Rattle.fit.specs.declared.Fit.{Fit}
-use Rattle.fit.specs.declared.Fit.TheVariants.{Yes, No, Refused}
 use Rattle.fit.specs.Misfits.{misfits, fit_of}
 use Rattle.fit.specs.First.{before}
 
@@ -80,38 +78,38 @@ abbrev terminal : List ℕ
 terminal = be 11 0x05000000_0800_01000000_10
 
 -- a script, and the answer
-unfoldable pub worked : List (List ℕ × Fit)
+unfoldable pub worked : List (List ℕ × Result (Option Misfit) ℕ)
 worked =
     -- no record; a bare set; a terminal error, which is sent alone
-    ([], Refused 12)
-    ∷ (set, Yes)
-    ∷ (classified ++ terminal, Yes)
+    ([], Err 12)
+    ∷ (set, Ok None)
+    ∷ (classified ++ terminal, Ok None)
     -- four misfits, and three, two, one and none as they are corrected from the top; the name is none of them
-    ∷ (classified ++ ints 129 ++ row ++ classified, No (Classification 0))
-    ∷ (set ++ ints 129 ++ row ++ classified, No (Column 0 128))
-    ∷ (set ++ column pair ++ row ++ classified, No (Cell 0 0 0))
-    ∷ (set ++ column pair ++ row ++ null ++ classified, No (Classification 1))
-    ∷ (set ++ column pair ++ row ++ null ++ set, Yes)
+    ∷ (classified ++ ints 129 ++ row ++ classified, Ok (Some (Classification 0)))
+    ∷ (set ++ ints 129 ++ row ++ classified, Ok (Some (Column 0 128)))
+    ∷ (set ++ column pair ++ row ++ classified, Ok (Some (Cell 0 0 0)))
+    ∷ (set ++ column pair ++ row ++ null ++ classified, Ok (Some (Classification 1)))
+    ∷ (set ++ column pair ++ row ++ null ++ set, Ok None)
     -- names of 255 units: letters and a pair, 127 pairs and a letter; 128 pairs; half a pair
-    ∷ (set ++ column (times 253 letter ++ pair), Yes)
-    ∷ (set ++ column (times 127 pair ++ letter), Yes)
-    ∷ (set ++ column (times 128 pair), Refused 16)
-    ∷ (set ++ column (be 2 0x3DD8), Refused 14)
+    ∷ (set ++ column (times 253 letter ++ pair), Ok None)
+    ∷ (set ++ column (times 127 pair ++ letter), Ok None)
+    ∷ (set ++ column (times 128 pair), Err 16)
+    ∷ (set ++ column (be 2 0x3DD8), Err 14)
     -- the most columns; too many
-    ∷ (set ++ ints 128, Yes)
-    ∷ (set ++ ints 129, No (Column 0 128))
-    ∷ (set ++ ints 130, No (Column 0 128))
-    ∷ (set ++ ints 300, No (Column 0 128))
+    ∷ (set ++ ints 128, Ok None)
+    ∷ (set ++ ints 129, Ok (Some (Column 0 128)))
+    ∷ (set ++ ints 130, Ok (Some (Column 0 128)))
+    ∷ (set ++ ints 300, Ok (Some (Column 0 128)))
     -- a row without columns; a wrong cell and a cell too many; a cell too many; the second row, with cell 0 missing, comes after the first
-    ∷ (set ++ row, No (Cell 0 0 0))
-    ∷ (set ++ ints 1 ++ row ++ tiny ++ null, No (Cell 0 0 0))
-    ∷ (set ++ ints 1 ++ row ++ null ++ null, No (Cell 0 0 1))
-    ∷ (set ++ ints 1 ++ row ++ null ++ null ++ row, No (Cell 0 0 1))
-    ∷ (set ++ ints 1 ++ row ++ null ++ row, No (Cell 0 1 0))
+    ∷ (set ++ row, Ok (Some (Cell 0 0 0)))
+    ∷ (set ++ ints 1 ++ row ++ tiny ++ null, Ok (Some (Cell 0 0 0)))
+    ∷ (set ++ ints 1 ++ row ++ null ++ null, Ok (Some (Cell 0 0 1)))
+    ∷ (set ++ ints 1 ++ row ++ null ++ null ++ row, Ok (Some (Cell 0 0 1)))
+    ∷ (set ++ ints 1 ++ row ++ null ++ row, Ok (Some (Cell 0 1 0)))
     ∷ []
 
 abbrev pub WorkedScripts : Type 0
-WorkedScripts = map (λ (line : List ℕ × Fit). fit_of line.0) worked ≡ map (λ (line : List ℕ × Fit). line.1) worked
+WorkedScripts = map (λ (line : List ℕ × Result (Option Misfit) ℕ). fit_of line.0) worked ≡ map (λ (line : List ℕ × Result (Option Misfit) ℕ). line.1) worked
 
 -- all misfits of a script
 abbrev pub misfits_of : List ℕ → List Misfit

@@ -4,16 +4,17 @@
 #![tactic(auto)]
 
 ghost use Rattle.std.specs.Prelude.{◌≡◌, length, drop};
+ghost use Rattle.refusals.specs.Refused.{numbered};
 ghost use Rattle.script.specs.Records.{records};
 ghost use Rattle.fit.specs.Misfits.{cell_fits, first_of, fit_of};
 ghost use Rattle.fit.specs.Records.{misfits_from, set_from, sets_from, terminal, misfits_in};
 ghost use Rattle.fit.specs.Walks.{cell_wrong, row_end, RowWalked, ColumnsWalked, SetWalked};
 
-use emission::{ErrorAt, Measure};
+use refusals::Refusal;
 use script::Found;
 
 // A misfit: the classification of a set, a column, or a cell. All numbers count from 0.
-#[derive(Clone, Copy)]
+#[derive(Clone, Copy, PartialEq, Eq, Debug)]
 pub enum Misfit {
     Classification {
         set: usize,
@@ -29,20 +30,13 @@ pub enum Misfit {
     },
 }
 
-// What the fit check answers: yes, no with the first misfit, or the refusal's number.
-#[derive(Clone, Copy)]
-pub enum Fit {
-    Yes,
-    No(Misfit),
-    Refused(u8),
-}
-
 // The most columns of a set, and the most bytes of text in a cell of value 5.
 const MOST_COLUMNS: usize = 128;
 
 const MOST_TEXT: usize = 8000;
 
 // Whether a cell is of a column's type.
+#[tactic(auto, unfolding(crate::specs::Misfits::cell_fits))]
 fn cell_fits(data_type: u8, p: &[u8]) -> bool
     ensures { result ≡ cell_fits data_type p.now }
 {
@@ -57,19 +51,13 @@ fn cell_fits(data_type: u8, p: &[u8]) -> bool
     }
 }
 
-// A row's cells: all right, with the place after them, or the number of the first that is wrong.
-#[derive(Clone, Copy)]
-enum Row {
-    Right(usize),
-    Wrong(usize),
-}
-
-// A row's cells, from a place on, against the types of its columns.
-fn walk_row(s: &[u8], from: usize, types: &[u8]) -> Row
+// A row's cells, from a place on, against the types of its columns: all right, with the place after them, or the number of the
+// first that is wrong.
+fn walk_row(s: &[u8], from: usize, types: &[u8]) -> Result<usize, usize>
     ensures { RowWalked s.now from types.now result }
 {
-    if types.len() == 0 {
-        return Row::Wrong(0);
+    if types.is_empty() {
+        return Err(0);
     }
     let mut at = from;
     let mut column: usize = 0;
@@ -88,7 +76,7 @@ fn walk_row(s: &[u8], from: usize, types: &[u8]) -> Row
                     return row_end(column, types.len(), at);
                 }
                 if cell_wrong(types, column, &s[start..next]) {
-                    return Row::Wrong(column);
+                    return Err(column);
                 }
                 column += 1;
                 at = next;
@@ -98,35 +86,33 @@ fn walk_row(s: &[u8], from: usize, types: &[u8]) -> Row
 }
 
 // Whether a cell is a misfit: there is no column for it, or it is not of its column's type.
+#[tactic(auto, unfolding(crate::specs::Walks::cell_wrong))]
 fn cell_wrong(types: &[u8], column: usize, p: &[u8]) -> bool
     ensures { result ≡ cell_wrong (drop column types.now) p.now }
 {
-    if types.len() <= column {
-        return true;
+    match types.get(column) {
+        None => true,
+        Some(data_type) => !cell_fits(*data_type, p),
     }
-    !cell_fits(types[column], p)
 }
 
 // At the end of a row that is right so far, of so many cells: wrong where there are more columns.
-fn row_end(cells: usize, columns: usize, at: usize) -> Row
+#[tactic(auto, unfolding(crate::specs::Walks::row_end))]
+fn row_end(cells: usize, columns: usize, at: usize) -> Result<usize, usize>
     ensures { result ≡ row_end cells columns at }
 {
-    if cells < columns {
-        Row::Wrong(cells)
-    } else {
-        Row::Right(at)
-    }
+    if cells < columns { Err(cells) } else { Ok(at) }
 }
 
-// A set's columns: their count and the place after them, or too many.
+// A set's columns: their count, and the place after them.
 #[derive(Clone, Copy)]
-enum Columns {
-    Right { count: usize, next: usize },
-    TooMany,
+struct Columns {
+    count: usize,
+    next: usize,
 }
 
-// A set's columns, from a place on. Their types go to the start of types.
-fn walk_columns(s: &[u8], from: usize, types: &mut [u8; MOST_COLUMNS]) -> Columns
+// A set's columns, from a place on; none where they are too many. Their types go to the start of types.
+fn walk_columns(s: &[u8], from: usize, types: &mut [u8; MOST_COLUMNS]) -> Option<Columns>
     requires { length types.old ≡ 128 }
     ensures { ColumnsWalked s.now from types.new result }
 {
@@ -135,14 +121,14 @@ fn walk_columns(s: &[u8], from: usize, types: &mut [u8; MOST_COLUMNS]) -> Column
     loop {
         match script::record_at(s, at) {
             Found::Cut | Found::End => {
-                return Columns::Right { count, next: at };
+                return Some(Columns { count, next: at });
             }
             Found::Record { kind, start, len } => {
                 if kind != script::COLUMN {
-                    return Columns::Right { count, next: at };
+                    return Some(Columns { count, next: at });
                 }
                 if MOST_COLUMNS <= count {
-                    return Columns::TooMany;
+                    return None;
                 }
                 let next = start + len;
                 types[count] = wire::get_u8(&s[start..next], 0);
@@ -153,15 +139,9 @@ fn walk_columns(s: &[u8], from: usize, types: &mut [u8; MOST_COLUMNS]) -> Column
     }
 }
 
-// A set: all right, with the place after it, or its first misfit.
-#[derive(Clone, Copy)]
-enum Set {
-    Right(usize),
-    Wrong(Misfit),
-}
-
-// The rows of a set, from a place after its columns on, up to the next set.
-fn walk_rows(s: &[u8], set: usize, from: usize, types: &[u8]) -> Set
+// The rows of a set, from a place after its columns on, up to the next set: all right, with the place after them, or their first
+// misfit.
+fn walk_rows(s: &[u8], set: usize, from: usize, types: &[u8]) -> Result<usize, Misfit>
     ensures { SetWalked s.now set from (misfits_from set 0 types.now (records (drop from s.now))) result }
 {
     let mut at = from;
@@ -169,22 +149,22 @@ fn walk_rows(s: &[u8], set: usize, from: usize, types: &[u8]) -> Set
     loop {
         match script::record_at(s, at) {
             Found::Cut | Found::End => {
-                return Set::Right(at);
+                return Ok(at);
             }
             Found::Record { kind, start, len } => {
                 let next = start + len;
                 if kind == script::SET {
-                    return Set::Right(at);
+                    return Ok(at);
                 }
                 if kind != script::ROW {
                     at = next;
                     continue;
                 }
                 match walk_row(s, next, types) {
-                    Row::Wrong(column) => {
-                        return Set::Wrong(Misfit::Cell { set, row, column });
+                    Err(column) => {
+                        return Err(Misfit::Cell { set, row, column });
                     }
-                    Row::Right(after) => {
+                    Ok(after) => {
                         row += 1;
                         at = after;
                     }
@@ -194,25 +174,25 @@ fn walk_rows(s: &[u8], set: usize, from: usize, types: &[u8]) -> Set
     }
 }
 
-// A set whose classification is given, from the place after its record on.
-fn walk_set(s: &[u8], set: usize, classification: &[u8], from: usize) -> Set
+// A set whose classification is given, from the place after its record on: all right, with the place after it, or its first misfit.
+fn walk_set(s: &[u8], set: usize, classification: &[u8], from: usize) -> Result<usize, Misfit>
     ensures { SetWalked s.now set from (set_from set classification.now (records (drop from s.now))) result }
 {
-    if classification.len() != 0 {
-        return Set::Wrong(Misfit::Classification { set });
+    if !classification.is_empty() {
+        return Err(Misfit::Classification { set });
     }
     let mut types = [0u8; MOST_COLUMNS];
-    match walk_columns(s, from, &mut types) {
-        Columns::TooMany => Set::Wrong(Misfit::Column {
+    let Some(columns) = walk_columns(s, from, &mut types) else {
+        return Err(Misfit::Column {
             set,
             column: MOST_COLUMNS,
-        }),
-        Columns::Right { count, next } => walk_rows(s, set, next, &types[..count]),
-    }
+        });
+    };
+    walk_rows(s, set, columns.next, &types[..columns.count])
 }
 
 // The first misfit of a script's sets.
-fn walk_sets(s: &[u8]) -> Fit
+fn walk_sets(s: &[u8]) -> Option<Misfit>
     ensures { result ≡ first_of (sets_from 0 (records s.now)) }
 {
     let mut at: usize = 0;
@@ -220,7 +200,7 @@ fn walk_sets(s: &[u8]) -> Fit
     loop {
         match script::record_at(s, at) {
             Found::Cut | Found::End => {
-                return Fit::Yes;
+                return None;
             }
             Found::Record {
                 kind: _,
@@ -229,10 +209,10 @@ fn walk_sets(s: &[u8]) -> Fit
             } => {
                 let next = start + len;
                 match walk_set(s, set, &s[start..next], next) {
-                    Set::Wrong(misfit) => {
-                        return Fit::No(misfit);
+                    Err(misfit) => {
+                        return Some(misfit);
                     }
-                    Set::Right(after) => {
+                    Ok(after) => {
                         set += 1;
                         at = after;
                     }
@@ -252,29 +232,25 @@ fn is_terminal(s: &[u8]) -> bool
             kind: _,
             start,
             len,
-        } => match emission::error_in(s, start + len, script::TERMINAL_ERROR) {
-            ErrorAt::At(_) => true,
-            ErrorAt::Missing => false,
-        },
+        } => emission::error_in(s, start + len, script::TERMINAL_ERROR).is_some(),
     }
 }
 
-// Whether a script that is not refused fits, or its first misfit.
-fn first_misfit(s: &[u8]) -> Fit
+// The first misfit of a script that is not refused; none where it fits.
+#[tactic(auto, unfolding(crate::specs::Records::misfits_in))]
+fn first_misfit(s: &[u8]) -> Option<Misfit>
     ensures { result ≡ first_of (misfits_in (records s.now)) }
 {
     if is_terminal(s) {
-        return Fit::Yes;
+        return None;
     }
     walk_sets(s)
 }
 
-// The fit check: whether a script fits, or its first misfit; or its refusal, 11 to 17.
-pub fn check(script: &[u8]) -> Fit
-    ensures { result ≡ fit_of script.now }
+// The fit check: a script's first misfit, none where it fits; or its refusal, 11 to 17.
+pub fn check(script: &[u8]) -> Result<Option<Misfit>, Refusal>
+    ensures { numbered result ≡ fit_of script.now }
 {
-    match emission::reply_length(script) {
-        Measure::Refused(number) => Fit::Refused(number),
-        Measure::Size(_) => first_misfit(script),
-    }
+    emission::reply_length(script)?;
+    Ok(first_misfit(script))
 }

@@ -3,12 +3,11 @@ use mathlib.Core.Path.{◌≡◌, refl, sym, ap, ◌∙◌}
 use mathlib.Core.Bool.{Bool, true, false}
 use mathlib.Core.List.{List, [], ◌++◌, append_assoc}
 use Prim.Native.Nat.{ℕ, ◌+◌, ◌-◌, ◌*◌, ◌≤◌, ◌<◌, min}
-use native.Mathlib.Nat.{add-sub_cancel_left}
 use native.Mathlib.Omega.{arith}
-use lib.Dec.{leb}
-use lib.ListN.{length, take, drop, length-drop}
+use lib.Dec.{leb, eqb}
+use lib.ListN.{length, take, drop, length-drop, length-append}
 use lib.Seq.{drop-drop, take-take, length-take-le, take_at, drop_at}
-use borrow.Author.Tests.{le-leb, lt-leb}
+use borrow.Author.Tests.{le-leb, lt-leb, eq-eqb, ne_eqb}
 use Rattle.wire.specs.Over.{Wrote, overwrite}
 use Rattle.wire.proofs.Cases.{split}
 use Rattle.wire.proofs.Over.{then, wrote_as, drop-over, length_over, over-eq, wrote_nothing}
@@ -23,27 +22,32 @@ use Rattle.packet.proofs.Moved.{drop-take}
 
 -- ---- from another slice
 
--- the packets still to be written of the payload from a place on
-abbrev pub packets_left : ℕ → List ℕ → ℕ → ℕ → List ℕ
-packets_left room payload from number = cut_from (length payload - from) number room (drop from payload)
+-- the packets still to be written of what is left of a payload
+abbrev pub packets_left : ℕ → List ℕ → ℕ → List ℕ
+packets_left room rest number = cut_from (length rest) number room rest
 
-pub left-turn : (room : ℕ) (payload : List ℕ) (from number len : ℕ) → 1 ≤ room → from < length payload → len ≡ min (length payload - from) room
-    → packets_left room payload from number
-    ≡ part_bytes number (leb (length payload - from) room) (take (from + len - from) (drop from payload)) ++ packets_left room payload (from + len) (number + 1)
-left-turn room payload from number len some h e =
-    let n : length payload - (from + len) ≡ length payload - from - len = omega arith in
-    rw (n, add-sub_cancel_left from len, ← drop-drop len from payload)
-    (cut-turn room some number (length payload - from) len (drop from payload) (length-drop from payload) (omega arith) e)
+-- the next one, of the part at the front
+pub left-turn : (room number : ℕ) (rest part after : List ℕ) → 1 ≤ room → rest ≡ part ++ after → length part ≡ min room (length rest) → 1 ≤ length rest
+    → packets_left room rest number ≡ part_bytes number (eqb (length rest - length part) 0) part ++ packets_left room after (number + 1)
+left-turn room number rest part after some e m l =
+    let n : length rest - length part ≡ length after = omega (arith, simp length-append at (ap length e)) in
+    let last : leb (length rest) room ≡ eqb (length rest - length part) 0 =
+    split (length rest) room
+    (λ f. le-leb (length rest) room f ∙ sym (eq-eqb (length rest - length part) 0 (omega arith)))
+    (λ f. lt-leb (length rest) room f ∙ sym (ne_eqb (length rest - length part) 0 (λ z. omega arith))) in
+    let front : take (length part) rest ≡ part = rw e (take_at part after (length part) refl) in
+    let back : drop (length part) rest ≡ after = rw e (drop_at part after (length part) refl) in
+    rw (last, front, back) at (cut-turn room some number (length rest) (length part) rest refl l (omega arith)) ∙ rw n
 
 -- none is left at the end
-pub left-none : (room : ℕ) (payload : List ℕ) (from number : ℕ) → length payload ≤ from → packets_left room payload from number ≡ []
+pub left-none : (room : ℕ) (rest : List ℕ) (number : ℕ) → length rest ≡ 0 → packets_left room rest number ≡ []
 unfolding cut_from
-left-none room payload from number h = let z : length payload - from ≡ 0 = omega arith in rw z
+left-none room rest number h = rw h
 
 -- all of them are those of the payload
-pub left-all : (size : ℕ) (payload : List ℕ) → 9 ≤ size → whole_packets size payload ≡ packets_left (size - 8) payload 0 1
+pub left-all : (size : ℕ) (payload : List ℕ) → 9 ≤ size → whole_packets size payload ≡ packets_left (size - 8) payload 1
 unfolding whole_packets packets_of
-left-all size payload h = let z : length payload - 0 ≡ length payload = omega arith in rw (lt-leb size 8 h, z)
+left-all size payload h = rw (lt-leb size 8 h)
 
 pub none-whole : (size : ℕ) (payload buf : List ℕ) → size ≤ 8 → Wrote buf 0 (whole_packets size payload) buf 0
 unfolding whole_packets

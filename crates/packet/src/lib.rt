@@ -46,6 +46,7 @@ impl TryFrom<u8> for PacketType {
     ghost try_from_gives = { λ b r. r ≡ ok_or (type_of b) UnknownPacketType };
 
     // The packet type that a byte stands for.
+    #[tactic(auto, unfolding(crate::specs::Types::type_of, crate::specs::Types::types, crate::specs::Types::type_in))]
     fn try_from(value: u8) -> Result<Self, Refusal> {
         match value {
             0x01 => Ok(PacketType::SqlBatch),
@@ -82,16 +83,16 @@ impl PacketStatus {
         PacketStatus(Self::END_OF_MESSAGE)
     }
 
-    pub fn is_end_of_message(status: PacketStatus) -> bool
-        ensures { result ≡ has_bit 0x01 status.0 }
+    pub fn is_end_of_message(self) -> bool
+        ensures { result ≡ has_bit 0x01 self.0 }
     {
-        status.0 & Self::END_OF_MESSAGE != 0
+        self.0 & Self::END_OF_MESSAGE != 0
     }
 
-    pub fn is_ignore(status: PacketStatus) -> bool
-        ensures { result ≡ has_bit 0x02 status.0 }
+    pub fn is_ignore(self) -> bool
+        ensures { result ≡ has_bit 0x02 self.0 }
     {
-        status.0 & Self::IGNORE != 0
+        self.0 & Self::IGNORE != 0
     }
 }
 
@@ -171,7 +172,7 @@ const FIRST_NUMBER: usize = 1;
 pub fn is_packet_size(size: usize) -> bool
     ensures { result ≡ is_packet_size size }
 {
-    (LEAST_PACKET_SIZE <= size) & (size <= MOST_PACKET_SIZE)
+    (LEAST_PACKET_SIZE..=MOST_PACKET_SIZE).contains(&size)
 }
 
 // How many packets of a size a payload of n bytes becomes: none of an empty one, none of a size without room for payload.
@@ -186,17 +187,11 @@ pub fn packet_count(size: u16, n: u16) -> usize
 }
 
 // How many bytes these packets have: the payload's, and eight for each header.
+#[tactic(auto, unfolding(crate::specs::Agreed::packets_length))]
 pub fn packets_length(size: u16, n: u16) -> usize
     ensures { result ≡ packets_length size n }
 {
     n as usize + packet_count(size, n) * 8
-}
-
-// The smaller of two numbers.
-fn least(a: usize, b: usize) -> usize
-    ensures { result ≡ min a b }
-{
-    if a < b { a } else { b }
 }
 
 // The status of a reply's packet: the end bit on the last only.
@@ -204,9 +199,10 @@ fn part_status(last: bool) -> PacketStatus
     ensures { result ≡ record { 0 = cond last 0x01 0x00 } }
 {
     if last {
-        return PacketStatus::end_of_message();
+        PacketStatus::end_of_message()
+    } else {
+        PacketStatus::normal()
     }
-    PacketStatus::normal()
 }
 
 // The header of a reply's packet that has len bytes of payload.
@@ -224,62 +220,15 @@ fn part_header(number: usize, last: bool, len: usize) -> PacketHeader
     }
 }
 
-// Four bytes at a place of a buffer that has room for them.
-fn put_four(buf: &mut [u8], at: usize, b0: u8, b1: u8, b2: u8, b3: u8) -> usize
-    requires { at + 4 ≤ length buf.old }
-    ensures { Wrote buf.old at (b0 ∷ b1 ∷ b2 ∷ b3 ∷ []) buf.new result }
-{
-    buf[at] = b0;
-    buf[at + 1] = b1;
-    buf[at + 2] = b2;
-    buf[at + 3] = b3;
-    at + 4
-}
-
-// Eight bytes of a buffer moved down in it: all are read before one is written.
-fn move_eight(buf: &mut [u8], to: usize, from: usize) -> usize
-    requires { (to ≤ from) × (from + 8 ≤ length buf.old) }
-    ensures { Wrote buf.old to (take 8 (drop from buf.old)) buf.new result }
-{
-    let b0 = buf[from];
-    let b1 = buf[from + 1];
-    let b2 = buf[from + 2];
-    let b3 = buf[from + 3];
-    let b4 = buf[from + 4];
-    let b5 = buf[from + 5];
-    let b6 = buf[from + 6];
-    let b7 = buf[from + 7];
-    let half = put_four(buf, to, b0, b1, b2, b3);
-    put_four(buf, half, b4, b5, b6, b7)
-}
-
-// Bytes of a buffer moved down in it, one by one.
-fn move_bytes(buf: &mut [u8], to: usize, from: usize, len: usize) -> usize
-    requires { (to ≤ from) × (from + len ≤ length buf.old) }
-    ensures { Wrote buf.old to (take len (drop from buf.old)) buf.new result }
-{
-    let mut i = 0;
-    while i < len {
-        buf[to + i] = buf[from + i];
-        i += 1;
-    }
-    to + len
-}
-
-// Bytes of a buffer moved down in it, eight at a time and the rest one by one; those that stand where they belong are left.
+// Bytes of a buffer moved down in it; those that stand where they belong are left.
 fn move_down(buf: &mut [u8], to: usize, from: usize, len: usize) -> usize
     requires { (to ≤ from) × (from + len ≤ length buf.old) }
     ensures { Wrote buf.old to (take len (drop from buf.old)) buf.new result }
 {
-    if to == from {
-        return to + len;
+    if to != from {
+        buf.copy_within(from..from + len, to);
     }
-    let mut i = 0;
-    while i + 8 <= len {
-        move_eight(buf, to + i, from + i);
-        i += 8;
-    }
-    move_bytes(buf, to + i, from + i, len - i)
+    to + len
 }
 
 // A packet whose payload stands further on in the buffer.
@@ -301,10 +250,10 @@ fn move_parts(buf: &mut [u8], room: usize, from: usize, total: usize) -> usize
     let mut number = FIRST_NUMBER;
     while place < total {
         let left = total - place;
-        let len = least(left, room);
+        let len = left.min(room);
         at = move_part(buf, at, number, left <= room, place, len);
-        place = place + len;
-        number = number + 1;
+        place += len;
+        number += 1;
     }
     at
 }
@@ -346,14 +295,10 @@ pub fn put_packets(buf: &mut [u8], size: u16, payload: &[u8]) -> usize
     }
     let room = size as usize - PACKET_HEADER_SIZE;
     let mut at: usize = 0;
-    let mut from: usize = 0;
-    let mut number = FIRST_NUMBER;
-    while from < payload.len() {
-        let left = payload.len() - from;
-        let end = from + least(left, room);
-        at = put_part(buf, at, number, left <= room, &payload[from..end]);
-        from = end;
-        number = number + 1;
+    let mut left = payload.len();
+    for (i, part) in payload.chunks(room).enumerate() {
+        left -= part.len();
+        at = put_part(buf, at, FIRST_NUMBER + i, left == 0, part);
     }
     at
 }

@@ -4,9 +4,11 @@ use mathlib.Core.List.{List, [], ◌∷◌, ◌++◌, append-nil}
 use mathlib.Core.Bool.{true, false}
 use Prim.Native.Nat.{ℕ, ◌+◌, ◌-◌, ◌*◌, ◌≤◌, ◌<◌}
 use native.Mathlib.Omega.{arith}
+use lib.Dec.{eqb}
 use lib.ListN.{length, take, drop, length-append, length-drop}
 use lib.Seq.{drop-append-le, drop-drop, length-take-le, take_all, drop-length}
-use borrow.Author.Tests.{le-leb, leb-true}
+use borrow.Author.Tests.{le-leb, leb-true, eqb-true}
+use Rattle.wire.proofs.Cases.{clash}
 use Rattle.payload.specs.declared.frames.Frame.{Frame}
 use Rattle.payload.specs.declared.frames.Next.{Next}
 use Rattle.payload.specs.declared.frames.Stop as code
@@ -139,17 +141,17 @@ pub moved_by_lem : (l : List ℕ) (f : Frame) {x : Result Next Stop} → x ≡ n
 unfolding moved_of
 moved_by_lem l f e = rw e
 
-pub first-empty : (l : List ℕ) → length l ≡ 0 → Err (bad 8) ≡ first_of l
+pub first-empty : (l : List ℕ) → eqb (length l) 0 ≡ true → Err (bad 8) ≡ first_of l
 unfolding first_of
 first-empty [] h = refl
-first-empty (b ∷ l) h = absurd (omega arith)
+first-empty (b ∷ l) h = absurd (omega (arith, eqb-true (length (b ∷ l)) 0 h))
 
-pub first_some : (l : List ℕ) {x : Result Next Stop} → (length l ≡ 0 → ⊥) → x ≡ next_of 1 false l → framed 0 1 x ≡ first_of l
+pub first_some : (l : List ℕ) {x : Result Next Stop} → eqb (length l) 0 ≡ false → x ≡ next_of 1 false l → framed 0 1 x ≡ first_of l
 unfolding first_of
-first_some [] h e = absurd (h refl)
+first_some [] h e = clash (cc)
 first_some (b ∷ l) h e = rw e
 
-pub first-packet : (l : List ℕ) {p : Next} → (length l ≡ 0 → ⊥) → Ok p ≡ next_of 1 false l → Ok (record { base = 0; end = p.len; number = 1; last = p.last }) ≡ first_of l
+pub first-packet : (l : List ℕ) {p : Next} → eqb (length l) 0 ≡ false → Ok p ≡ next_of 1 false l → Ok (record { base = 0; end = p.len; number = 1; last = p.last }) ≡ first_of l
 first-packet l {p} h e =
     let z : p.len ≡ 0 + p.len = omega arith in
     ap (λ (n : ℕ). Ok (record { base = 0; end = n; number = 1; last = p.last })) z ∙ first_some l h e

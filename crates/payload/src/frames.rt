@@ -119,7 +119,7 @@ fn packet_at(lent: &[u8], at: usize, number: usize, ended: bool) -> Result<Next,
     };
     Ok(Next {
         len: length - PACKET_HEADER_SIZE,
-        last: PacketStatus::is_end_of_message(PacketStatus(wire::get_u8(rest, 1))),
+        last: PacketStatus(wire::get_u8(rest, 1)).is_end_of_message(),
     })
 }
 
@@ -161,8 +161,7 @@ fn fault_in(rest: &[u8]) -> Refusal
 fn is_part(header: PacketHeader, lent: usize) -> bool
     ensures { result ≡ is_part header lent }
 {
-    let packet_type = header.packet_type;
-    (packet_type.byte() == PacketType::TabularResult.byte())
+    (header.packet_type == PacketType::TabularResult)
         & (9 <= header.length as usize)
         & (header.length as usize <= lent)
 }
@@ -171,7 +170,7 @@ fn is_part(header: PacketHeader, lent: usize) -> bool
 pub(crate) fn first(lent: &[u8]) -> Result<Frame, Stop>
     ensures { stopped result ≡ first_of lent.now }
 {
-    if lent.len() == 0 {
+    if lent.is_empty() {
         return Err(Stop::Bad(Refusal::HeaderTooShort));
     }
     let next = packet_at(lent, 0, 1, false)?;
@@ -203,25 +202,18 @@ pub(crate) fn onward(lent: &[u8], frame: Frame) -> Result<Frame, Stop>
 pub fn resolve(lent: &[u8], packet: usize, place: usize) -> Result<Spotted, Refusal>
     ensures { numbered result ≡ spot_in (packets_in lent.now) packet place }
 {
-    let front = match first(lent) {
-        Ok(front) => front,
-        Err(stop) => return Err(stop.lost()),
-    };
+    let front = first(lent).map_err(Stop::lost)?;
     // A packet is known here by the index of its header and that of the next one.
     let mut start = 0;
     let mut at = front.end + PACKET_HEADER_SIZE;
     let mut number = 1;
     let mut last = front.last;
     while number < packet {
-        match packet_at(lent, at, number + 1, last) {
-            Ok(next) => {
-                start = at;
-                at = at + PACKET_HEADER_SIZE + next.len;
-                number += 1;
-                last = next.last;
-            },
-            Err(stop) => return Err(stop.lost()),
-        }
+        let next = packet_at(lent, at, number + 1, last).map_err(Stop::lost)?;
+        start = at;
+        at = at + PACKET_HEADER_SIZE + next.len;
+        number += 1;
+        last = next.last;
     }
     if packet == 0 {
         return Err(Refusal::Cut);

@@ -26,16 +26,15 @@ pub fn join(lent: &[u8], buf: &mut [u8]) -> Result<usize, Refusal>
 fn measured(lent: &[u8], room: usize) -> Result<usize, Refusal>
     ensures { numbered result ≡ joined_of lent.now room }
 {
-    let mut frame = match first(lent) {
-        Ok(front) => front,
-        Err(stop) => return ended(stop, 0, room),
-    };
+    let mut end = 0;
+    let mut packet = first(lent);
     loop {
-        match onward(lent, frame) {
-            Ok(next) => {
-                frame = next;
+        match packet {
+            Ok(frame) => {
+                end = frame.end;
+                packet = onward(lent, frame);
             },
-            Err(stop) => return ended(stop, frame.end, room),
+            Err(stop) => return ended(stop, end, room),
         }
     }
 }
@@ -65,18 +64,10 @@ fn fitted(n: usize, room: usize) -> Result<usize, Refusal>
 fn copy_payload(lent: &[u8], buf: &mut [u8])
     ensures { buf.new ≡ overwrite buf.old 0 (payload_of (packets_in lent.now)) }
 {
-    let mut frame = match first(lent) {
-        Ok(front) => front,
-        Err(_) => return,
-    };
-    loop {
+    let mut packet = first(lent);
+    while let Ok(frame) = packet {
         copy_packet(lent, frame, buf);
-        match onward(lent, frame) {
-            Ok(next) => {
-                frame = next;
-            },
-            Err(_) => return,
-        }
+        packet = onward(lent, frame);
     }
 }
 

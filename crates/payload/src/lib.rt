@@ -5,7 +5,8 @@
 pub mod frames;
 pub mod joining;
 
-ghost use Rattle.std.specs.Prelude.{◌≡◌, ◌&&◌, ◌+◌, ◌-◌, ◌*◌, ◌≤◌, ◌<◌, ◌^◌, leb};
+ghost use Rattle.std.specs.Prelude.{◌≡◌, ℕ, ◌&&◌, ◌+◌, ◌-◌, ◌*◌, ◌≤◌, ◌<◌, ◌^◌, leb, length, drop};
+ghost use Rattle.wire.specs.Le.{le_at};
 ghost use Rattle.refusals.specs.Refused.{numbered};
 ghost use Rattle.payload.specs.Places.{whole, number_at, part_at};
 ghost use Rattle.payload.specs.Frames.{lies, source_from};
@@ -33,49 +34,55 @@ pub struct PartAt {
 pub fn u8_at(lent: &[u8], frame: Frame, at: usize) -> Result<NumberAt, Refusal>
     ensures { (numbered result ≡ number_read (number_at 1 (source_from lent.now frame) at whole)) × Below 1 result }
 {
-    if !holds(lent, frame, at, 1) {
-        return number_across(lent, frame, at, 1);
-    }
-    Ok(NumberAt {
-        value: wide(lent[at + 8 * frame.number]),
-        next: at + 1,
-    })
+    number_at(lent, frame, at, 1, |i| byte_at(lent, i))
 }
 
 pub fn u16_at(lent: &[u8], frame: Frame, at: usize) -> Result<NumberAt, Refusal>
     ensures { (numbered result ≡ number_read (number_at 2 (source_from lent.now frame) at whole)) × Below 2 result }
 {
-    if !holds(lent, frame, at, 2) {
-        return number_across(lent, frame, at, 2);
-    }
-    Ok(NumberAt {
-        value: wire::get_u16_le(lent, at + 8 * frame.number) as u64,
-        next: at + 2,
-    })
+    number_at(lent, frame, at, 2, |i| wire::get_u16_le(lent, i) as u64)
 }
 
 pub fn u32_at(lent: &[u8], frame: Frame, at: usize) -> Result<NumberAt, Refusal>
     ensures { (numbered result ≡ number_read (number_at 4 (source_from lent.now frame) at whole)) × Below 4 result }
 {
-    if !holds(lent, frame, at, 4) {
-        return number_across(lent, frame, at, 4);
-    }
-    Ok(NumberAt {
-        value: wire::get_u32_le(lent, at + 8 * frame.number) as u64,
-        next: at + 4,
-    })
+    number_at(lent, frame, at, 4, |i| wire::get_u32_le(lent, i) as u64)
 }
 
 pub fn u64_at(lent: &[u8], frame: Frame, at: usize) -> Result<NumberAt, Refusal>
     ensures { (numbered result ≡ number_read (number_at 8 (source_from lent.now frame) at whole)) × Below 8 result }
 {
-    if !holds(lent, frame, at, 8) {
-        return number_across(lent, frame, at, 8);
+    number_at(lent, frame, at, 8, |i| wire::get_u64_le(lent, i))
+}
+
+// The number of k bytes at a place; where its frame holds it whole, `get` reads it at an index of the lent bytes.
+fn number_at<F: FnOnce(usize) -> u64>(
+    lent: &[u8],
+    frame: Frame,
+    at: usize,
+    k: usize,
+    get: F,
+) -> Result<NumberAt, Refusal>
+    requires size { (1 ≤ k) × (k ≤ 8) }
+    requires gets { (i : ℕ) → i + k ≤ length lent.now → F.pre get i }
+    requires got { (i n : ℕ) → i + k ≤ length lent.now → F.post get i n → (n ≡ le_at k (drop i lent.now)) × (n < 256 ^ k) }
+    ensures { (numbered result ≡ number_read (number_at k (source_from lent.now frame) at whole)) × Below k result }
+{
+    if !holds(lent, frame, at, k) {
+        return number_across(lent, frame, at, k);
     }
     Ok(NumberAt {
-        value: wire::get_u64_le(lent, at + 8 * frame.number),
-        next: at + 8,
+        value: get(at + 8 * frame.number),
+        next: at + k,
     })
+}
+
+// A byte that is lent. A number of wire is read past the end too: that test is left out here.
+fn byte_at(lent: &[u8], i: usize) -> u64
+    requires { i < length lent.now }
+    ensures { (result ≡ le_at 1 (drop i lent.now)) × (result < 256) }
+{
+    lent[i] as u64
 }
 
 // Whether a frame that the lent bytes have holds n bytes from a place on.
@@ -114,12 +121,6 @@ fn worth(b: u8, i: usize) -> u64
     ensures { (result ≡ b * 256 ^ i) × (b < 256) }
 {
     (b as u64) << (8 * i)
-}
-
-fn wide(b: u8) -> u64
-    ensures { (result ≡ b) × (result < 256) }
-{
-    b as u64
 }
 
 // The part of n bytes at a place.

@@ -1,5 +1,6 @@
 -- A run over the packets of a well-formed list, from any position that stands where the list does: by induction over the list.
 -- Assumes nothing.
+use Rattle.std.specs.Prelude.{Some, None, Ok}
 use mathlib.Core.Path.{◌≡◌, refl, sym, ap, ◌∙◌}
 use mathlib.Core.Bool.{Bool, true, false, cond}
 use mathlib.Core.List.{List, [], ◌∷◌, ◌++◌, map}
@@ -15,13 +16,11 @@ use Rattle.payload.proofs.Spots.{corner-back}
 use Rattle.payload.proofs.Joined.{Whole}
 use Rattle.token.specs.Tokens.{Token, EncodedCell, put, token_bytes, joined, states}
 use Rattle.token.proofs.Puts.{bytes-before}
-use Rattle.reader.specs.declared.Answer.TheVariants as answer
 use Rattle.reader.specs.declared.Position.{Position}
-use Rattle.reader.specs.declared.Step.{Step}
 use Rattle.reader.specs.declared.Token as read
 use Rattle.reader.specs.declared.Token.TheVariants.{ColMetadata, Column, Row, Cell, Done, Message}
 use Rattle.reader.specs.Positions.{fresh_position, stands, after}
-use Rattle.reader.specs.Reader.{settled, next_at, end_at, step_from, step_of, run_of, answer_of}
+use Rattle.reader.specs.Reader.{StepOf, settled, next_at, end_at, step_from, step_of, run_of, answer_of}
 use Rattle.reader.specs.Meaning.{token, meaning_of, kth}
 use Rattle.reader.proofs.WellFormed.{Phase, between, WF, wf-metadata, wf-column, wf-row, wf-cell, wf-message, wf-done, wf-last}
 use Rattle.reader.proofs.Held.{Holds, stands-ok}
@@ -40,14 +39,14 @@ payload-fields (t ∷ ts) = ap (λ (l : List ℕ). token_bytes t ++ l) (payload-
 
 -- ---- the answers of a run
 
-module _ (p : List ℕ) (pos : Position) {s : Step} (e : step_of p pos ≡ s) where
+module _ (p : List ℕ) (pos : Position) {s : StepOf} (e : step_of p pos ≡ s) where
   pub answer-first : answer_of 0 p pos ≡ s.answer
   unfolding answer_of run_of
-  answer-first = ap (λ (s : Step). s.answer) e
+  answer-first = ap (λ (s : StepOf). s.answer) e
 
   pub answer-next : (n : ℕ) → answer_of (suc n) p pos ≡ answer_of n p s.next
   unfolding answer_of run_of
-  answer-next n = ap (λ (s : Step). answer_of n p s.next) e
+  answer-next n = ap (λ (s : StepOf). answer_of n p s.next) e
 
 -- packets that end as they should, of a payload that one packet could have
 pub record Headed (l : List ℕ) : Type 0 where
@@ -59,10 +58,10 @@ pub record Headed (l : List ℕ) : Type 0 where
   pub short : length (source_of (packets_in l)).bytes < 65536
 
 -- the end, and a token, at a payload place
-chosen : {b : Bool} (x y : Step) → b ≡ true → cond b x y ≡ x
+chosen : {b : Bool} (x y : StepOf) → b ≡ true → cond b x y ≡ x
 chosen x y e = rw e
 
-passed : {b : Bool} (x y : Step) → b ≡ false → cond b x y ≡ y
+passed : {b : Bool} (x y : StepOf) → b ≡ false → cond b x y ≡ y
 passed x y e = rw e
 
 module _ (l : List ℕ) (pos : Position) where
@@ -106,13 +105,13 @@ module _ {l : List ℕ} (g : Headed l) where
 
   module _ {pos : Position} {n : ℕ} {ph : Phase} where
     -- at the payload's end, past the last DONE, the end, and again
-    ends : Placed l pos n → Holds src pos n true ph [] → step_of l pos ≡ record { answer = answer.End; next = pos }
+    ends : Placed l pos n → Holds src pos n true ph [] → step_of l pos ≡ record { answer = Ok None; next = pos }
     unfolding flat
     ends q h =
         let e : n ≡ length src.bytes = omega (arith, sym (length-drop n src.bytes) ∙ ap length h.here.is, h.here.inside) in
         stepped l pos n q (stands-ok h) ∙ chosen _ _ h.over-is ∙ rw (le-ltb n (length src.bytes) (omega arith), eq-eqb src.stop 24 stops)
 
-    stays : Placed l pos n → Holds src pos n true ph [] → (k : ℕ) → answer_of k l pos ≡ answer.End
+    stays : Placed l pos n → Holds src pos n true ph [] → (k : ℕ) → answer_of k l pos ≡ Ok None
     stays q h zero = answer-first l pos (ends q h)
     stays q h (suc k) = answer-next l pos (ends q h) k ∙ stays q h k
 
@@ -122,7 +121,7 @@ module _ {l : List ℕ} (g : Headed l) where
         → (k : ℕ) → meaning_of src.bytes (answer_of k l pos) ≡ kth (map states (t ∷ ts)) k
     goes_on_lem {t = t} ts q h f rest k = from (going l pos n q (stands-ok h) h.over-is ∙ ap (settled ps pos) f.is) k
       where
-        from : step_of l pos ≡ record { answer = answer.Token f.found; next = after pos f.found (corner_of ps f.place) } → (k : ℕ)
+        from : step_of l pos ≡ record { answer = Ok (Some f.found); next = after pos f.found (corner_of ps f.place) } → (k : ℕ)
             → meaning_of src.bytes (answer_of k l pos) ≡ kth (map states (t ∷ ts)) k
         from e zero = ap (meaning_of src.bytes) (answer-first l pos e) ∙ ap token f.means
         from e (suc k) = ap (meaning_of src.bytes) (answer-next l pos e k) ∙ rest k

@@ -14,11 +14,10 @@ use Rattle.payload.proofs.Sources.{same_self}
 use Rattle.payload.proofs.Agree.{agree-to}
 use Rattle.payload.proofs.Spots.{corner-back}
 use Rattle.reader.specs.declared.Position.{Position}
-use Rattle.reader.specs.declared.Step.{Step}
 use Rattle.reader.specs.declared.Token.{Token}
 use Rattle.reader.specs.declared.Token.TheVariants.{ColMetadata, Column, Row, Cell, Done, Message}
 use Rattle.reader.specs.Positions.{fresh_position, stands, after}
-use Rattle.reader.specs.Reader.{refused_at, settled, row_cell_at, next_at, ending, end_at, step_from, step_of, run_of, answer_of}
+use Rattle.reader.specs.Reader.{StepOf, refused_at, settled, row_cell_at, next_at, ending, end_at, step_from, step_of, run_of, answer_of}
 use Rattle.reader.proofs.Agree.{next_agree}
 
 -- packets that begin with one
@@ -39,7 +38,7 @@ Stands l c n = place_in (packets_in l) c.packet c.place ≡ at n
 
 module _ (l m : List ℕ) where
   -- two steps with one answer, after which the positions stand at one payload place
-  record Twins (s t : Step) : Type 0 where
+  record Twins (s t : StepOf) : Type 0 where
     answers : s.answer ≡ t.answer
     base : Position
     here : Corner
@@ -50,13 +49,13 @@ module _ (l m : List ℕ) where
     stands_here : Stands l here place
     stands-there : Stands m there place
 
-  twins-cond : (b : Bool) (x y u v : Step) → Twins x u → Twins y v → Twins (cond b x y) (cond b u v)
+  twins-cond : (b : Bool) (x y u v : StepOf) → Twins x u → Twins y v → Twins (cond b x y) (cond b u v)
   twins-cond true x y u v f g = f
   twins-cond false x y u v f g = g
 
   module _ (pos : Position) (c d : Corner) (n : ℕ) (p : Stands l c n) (q : Stands m d n) where
     -- the positions stay
-    stay : {s t : Step} → s.answer ≡ t.answer → s.next ≡ moved pos c → t.next ≡ moved pos d → Twins s t
+    stay : {s t : StepOf} → s.answer ≡ t.answer → s.next ≡ moved pos c → t.next ≡ moved pos d → Twins s t
     stay e f g = record { answers = e; base = pos; here = c; there = d; place = n; next_here = f; next-there = g; stands_here = p; stands-there = q }
 
 -- after a token nothing of a position stays but what it holds

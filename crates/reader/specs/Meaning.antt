@@ -1,13 +1,12 @@
 -- What an answer of the reader means: a token with the bytes of its parts (document 01, 'What a script emits': a part stands for the
 -- bytes in it, a Max part for its chunks' bytes joined). Rests on token's tokens and wire's parts.
-use Rattle.std.specs.Prelude.{ℕ, zero, suc, List, [], ◌∷◌}
+use Rattle.std.specs.Prelude.{ℕ, zero, suc, List, [], ◌∷◌, Some, None, Ok, Err}
 use Rattle.wire.specs.Part.{part_bytes}
 use Rattle.token.specs.Tokens as sent
 use Rattle.cells.specs.Values.{value_meaning}
 use Rattle.reader.specs.declared.Token.{Token}
 use Rattle.reader.specs.declared.Token.TheVariants as read
-use Rattle.reader.specs.declared.Answer.{Answer}
-use Rattle.reader.specs.declared.Answer.TheVariants as answer
+use Rattle.reader.specs.Reader.{Answer}
 
 -- what a token states, whose parts are those of a payload
 abbrev pub token_meaning : List ℕ → Token → sent.Token sent.Value
@@ -26,9 +25,9 @@ pub data Meaning : Type 0 where
   refusal : ℕ → Meaning
 
 abbrev pub meaning_of : List ℕ → Answer → Meaning
-meaning_of payload (answer.Token t) = token (token_meaning payload t)
-meaning_of payload answer.End = ended
-meaning_of payload (answer.Refused n) = refusal n
+meaning_of payload (Ok (Some t)) = token (token_meaning payload t)
+meaning_of payload (Ok None) = ended
+meaning_of payload (Err n) = refusal n
 
 -- the k-th of some tokens, from 0, and the end from then on
 abbrev pub kth : List (sent.Token sent.Value) → ℕ → Meaning

@@ -1,11 +1,8 @@
 -- The reader's step and a run of steps (document 01, 'The reply reader'; document 02, 2026-02). Rests on ReadTokens, Positions and
 -- payload's packets.
-use Rattle.std.specs.Prelude.{ℕ, zero, suc, ◌-◌, cond, List, eqb, ltb, length, get_or}
+use Rattle.std.specs.Prelude.{ℕ, zero, suc, ◌-◌, cond, List, eqb, ltb, length, get_or, Option, Some, None, Result, Ok, Err}
 use Rattle.refusals.specs.Numbers.{cut_short, inner_wrong}
-use Rattle.reader.specs.declared.Answer.{Answer}
-use Rattle.reader.specs.declared.Answer.TheVariants as answer
 use Rattle.reader.specs.declared.Position.{Position}
-use Rattle.reader.specs.declared.Step.{Step}
 use Rattle.reader.specs.declared.Token.{Token}
 use Rattle.reader.specs.declared.Token.TheVariants.{Cell}
 use Rattle.payload.specs.Places.{Source, Place, Read, whole, refused, then}
@@ -16,13 +13,22 @@ use Rattle.cells.specs.Cells.{cell_at}
 use Rattle.reader.specs.ReadTokens.{column_at, token_at}
 use Rattle.reader.specs.Positions.{stands, after}
 
+-- what a step answers: a token, the end, or the number of a refusal
+abbrev pub Answer : Type 0
+Answer = Result (Option Token) ℕ
+
+-- a step: its answer, and the position that it hands back
+pub record StepOf : Type 0 where
+  pub answer : Answer
+  pub next : Position
+
 -- a refusal hands back the same position
-abbrev pub refused_at : Position → ℕ → Step
-refused_at pos n = record { answer = answer.Refused n; next = pos }
+abbrev pub refused_at : Position → ℕ → StepOf
+refused_at pos n = record { answer = Err n; next = pos }
 
 -- what was read of some packets, as a step
-abbrev pub settled : Packets → Position → Read Token → Step
-settled ps pos (whole token at) = record { answer = answer.Token token; next = after pos token (corner_of ps at) }
+abbrev pub settled : Packets → Position → Read Token → StepOf
+settled ps pos (whole token at) = record { answer = Ok (Some token); next = after pos token (corner_of ps at) }
 settled ps pos (refused n) = refused_at pos n
 
 -- the next cell of the current row, of its column's type
@@ -41,14 +47,14 @@ next_at src at pos =
 -- after the last DONE the payload must end: bytes left are 26, and a refusal of reading on is given. That of packets that end as they
 -- should is 24, and is the end
 abbrev pub ending : Source → Place → Answer
-ending src at = cond (ltb at (length src.bytes)) (answer.Refused inner_wrong) (cond (eqb src.stop cut_short) answer.End (answer.Refused src.stop))
+ending src at = cond (ltb at (length src.bytes)) (Err inner_wrong) (cond (eqb src.stop cut_short) (Ok None) (Err src.stop))
 
 -- at the end the same position comes back
-abbrev pub end_at : Source → Place → Position → Step
+abbrev pub end_at : Source → Place → Position → StepOf
 end_at src at pos = record { answer = ending src at; next = pos }
 
 -- a step from a payload place: 24 for a position that is refused, then the end or the next token
-abbrev pub step_from : Packets → Position → Placed → Step
+abbrev pub step_from : Packets → Position → Placed → StepOf
 step_from ps pos (positions.refused n) = refused_at pos n
 step_from ps pos (positions.at n) =
     cond (stands pos)
@@ -56,7 +62,7 @@ step_from ps pos (positions.at n) =
     (refused_at pos cut_short)
 
 -- a step over lent packets: the refusals of the headers up to the position's packet, then of the position
-unfoldable pub step_of : List ℕ → Position → Step
+unfoldable pub step_of : List ℕ → Position → StepOf
 step_of lent pos = step_from (packets_in lent) pos (place_in (packets_in lent) pos.packet pos.place)
 
 -- ---- a run: each step gets the position that the last one handed back

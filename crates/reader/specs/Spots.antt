@@ -1,15 +1,11 @@
 -- A position taken apart, as the code hands it on: the spot, and what a step asks of the types that are held. Rests on Positions and
 -- Reader.
-use Rattle.std.specs.Prelude.{◌≡◌, Bool, cond, ◌&&◌, List, [], ℕ, ◌+◌, ◌-◌, leb, ltb, get_or}
+use Rattle.std.specs.Prelude.{◌≡◌, Bool, cond, ◌&&◌, List, [], ℕ, ◌+◌, ◌-◌, leb, ltb, get_or, Option, Some, None, Result, Ok, Err}
 use Rattle.refusals.specs.Numbers.{cut_short}
-use Rattle.reader.specs.declared.Answer.{Answer}
-use Rattle.reader.specs.declared.Answer.TheVariants as answer
 use Rattle.reader.specs.declared.Got.{Got}
-use Rattle.reader.specs.declared.Got.TheVariants as got
 use Rattle.reader.specs.declared.HeldTypes.{HeldTypes}
 use Rattle.reader.specs.declared.Position.{Position}
 use Rattle.reader.specs.declared.Spot.{Spot}
-use Rattle.reader.specs.declared.Step.{Step}
 use Rattle.reader.specs.declared.Token.{Token}
 use Rattle.reader.specs.declared.Token.TheVariants.{Cell}
 use Rattle.cells.specs.declared.Value.{Value}
@@ -21,7 +17,7 @@ use Rattle.payload.specs.Positions.{Placed, place_in, corner_of}
 use Rattle.cells.specs.Cells.{cell_at}
 use Rattle.reader.specs.ReadTokens.{column_at, token_at}
 use Rattle.reader.specs.Positions.{held, after}
-use Rattle.reader.specs.Reader.{refused_at, ending, step_of}
+use Rattle.reader.specs.Reader.{Answer, StepOf, refused_at, ending, step_of}
 
 -- the position at a spot that holds types
 abbrev pub holding : Spot → List ℕ → List ℕ → Position
@@ -42,21 +38,25 @@ held_in pos =
 abbrev pub spot_after : Spot → Token → ℕ → ℕ → Spot
 spot_after at token number place = spot_of (after (holding at [] []) token (record { packet = number; place = place }))
 
+-- what is found: a token with the packet and the place after it, the end, or the number of a refusal
+abbrev pub Found : Type 0
+Found = Result (Option Got) ℕ
+
 -- what was found at a position, as a step
-abbrev pub step_by : Position → Got → Step
-step_by pos (got.Token token number place) = record { answer = answer.Token token; next = after pos token (record { packet = number; place = place }) }
-step_by pos got.End = record { answer = answer.End; next = pos }
-step_by pos (got.Refused n) = refused_at pos n
+abbrev pub step_by : Position → Found → StepOf
+step_by pos (Ok (Some got)) = record { answer = Ok (Some got.token); next = after pos got.token (record { packet = got.packet; place = got.place }) }
+step_by pos (Ok None) = record { answer = Ok None; next = pos }
+step_by pos (Err n) = refused_at pos n
 
 -- a token after which the reader stands at a payload place of a frame
 abbrev pub got_in : Frame → Token → ℕ → Got
-got_in f token n = got.Token token f.number (8 + (n - f.base))
+got_in f token n = record { token = token; packet = f.number; place = 8 + (n - f.base) }
 
 -- the end as it is found
-abbrev pub got_end : Answer → Got
-got_end (answer.Token t) = got.End
-got_end answer.End = got.End
-got_end (answer.Refused n) = got.Refused n
+abbrev pub got_end : Answer → Found
+got_end (Ok (Some t)) = Ok None
+got_end (Ok None) = Ok None
+got_end (Err n) = Err n
 
 -- a cell as a token
 abbrev pub cell_token : Read Value → Read Token
@@ -74,20 +74,20 @@ next_by src n at held =
     (token_at at.count src n))
 
 -- what was read of some packets
-abbrev pub got_read : Packets → Read Token → Got
-got_read ps (whole token n) = let to = corner_of ps n in got.Token token to.packet to.place
-got_read ps (refused n) = got.Refused n
+abbrev pub got_read : Packets → Read Token → Found
+got_read ps (whole token n) = let to = corner_of ps n in Ok (Some (record { token = token; packet = to.packet; place = to.place }))
+got_read ps (refused n) = Err n
 
 -- what is found from a payload place, as `step_from` has it
-abbrev pub got_from : Packets → Spot → HeldTypes → Placed → Got
-got_from ps at held (positions.refused n) = got.Refused n
+abbrev pub got_from : Packets → Spot → HeldTypes → Placed → Found
+got_from ps at held (positions.refused n) = Err n
 got_from ps at held (positions.at n) =
     cond (stands_by at held.sound)
     (cond at.over (got_end (ending (source_of ps) n)) (got_read ps (next_by (source_of ps) n at held)))
-    (got.Refused cut_short)
+    (Err cut_short)
 
 -- what is found from a spot over lent packets
-unfoldable pub got_of : List ℕ → Spot → HeldTypes → Got
+unfoldable pub got_of : List ℕ → Spot → HeldTypes → Found
 got_of lent at held = got_from (packets_in lent) at held (place_in (packets_in lent) at.packet at.place)
 
 -- a step of a position is what is found from its spot and the types that it holds

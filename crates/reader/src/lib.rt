@@ -5,6 +5,7 @@
 mod token_reader;
 
 ghost use Rattle.std.specs.Prelude.{◌≡◌, true, ◌≤◌, length};
+ghost use Rattle.refusals.specs.Refused.{numbered};
 ghost use Rattle.packet.specs.Status.{has_bit};
 ghost use Rattle.payload.specs.Frames.{source_from, frame_at};
 ghost use Rattle.cells.specs.Cells.{cell_at};
@@ -13,11 +14,10 @@ ghost use Rattle.reader.specs.Reader.{ending, step_of};
 ghost use Rattle.reader.specs.Code.{token_read};
 ghost use Rattle.reader.specs.Spots.{holding, held_in, spot_after, stands_by, next_by, got_in, got_end, got_of, cell_token};
 
-use cells::{CellRead, Value};
-use payload::frames::{Frame, Reached, Spotted};
-use payload::{frames, minus};
-use refusals::{CUT, INNER_WRONG};
-use token_reader::TokenRead;
+use cells::Value;
+use payload::frames::{self, Frame};
+use refusals::Refusal;
+use token_reader::TokenAt;
 use wire::Part;
 
 // The most columns that a position holds.
@@ -73,16 +73,10 @@ pub struct Position {
     pub over: bool,
 }
 
-#[derive(Clone, Copy)]
-pub enum Answer {
-    Token(Token),
-    End,
-    Refused(u8),
-}
-
+// A step: a token, the end or a refusal, and the next position.
 #[derive(Clone, Copy)]
 pub struct Step {
-    pub answer: Answer,
+    pub answer: Result<Option<Token>, Refusal>,
     pub next: Position,
 }
 
@@ -106,7 +100,8 @@ impl Position {
     // The next token, the end, or a refusal. A refusal and the end hand back the same position.
     // The types are copied once, to locals, and lent from there: a position that is handed on by value is copied each time.
     pub fn step(self, packets: &[u8]) -> Step
-        ensures { result ≡ step_of packets.now self }
+        ensures answer { numbered result.answer ≡ (step_of packets.now self).answer }
+        ensures next { result.next ≡ (step_of packets.now self).next }
     {
         let at = Spot {
             packet: self.packet,
@@ -119,25 +114,25 @@ impl Position {
         let mut types = self.types;
         let mut limits = self.limits;
         match got_at(packets, at, held_in(at, &types, &limits)) {
-            Got::Refused(n) => Step {
-                answer: Answer::Refused(n),
+            Err(refusal) => Step {
+                answer: Err(refusal),
                 next: self,
             },
-            Got::End => Step {
-                answer: Answer::End,
+            Ok(None) => Step {
+                answer: Ok(None),
                 next: self,
             },
-            Got::Token(token, packet, place) => {
-                let next = spot_after(at, token, packet, place);
-                if let Token::Column { code, limit, .. } = token {
-                    let i = minus(at.count, at.columns_left);
+            Ok(Some(got)) => {
+                let next = spot_after(at, got.token, got.packet, got.place);
+                if let Token::Column { code, limit, .. } = got.token {
+                    let i = at.count.saturating_sub(at.columns_left);
                     if i < MAX_COLUMNS {
                         types[i] = code;
                         limits[i] = limit;
                     }
                 }
                 Step {
-                    answer: Answer::Token(token),
+                    answer: Ok(Some(got.token)),
                     next: Position {
                         packet: next.packet,
                         place: next.place,
@@ -174,33 +169,28 @@ pub struct HeldTypes {
     pub limit: u16,
 }
 
-// What a step comes to: a token with the packet and the place after it, the end, or a refusal.
+// A token, with the packet and the place after it.
 #[derive(Clone, Copy)]
-pub enum Got {
-    Token(Token, usize, usize),
-    End,
-    Refused(u8),
+pub struct Got {
+    pub token: Token,
+    pub packet: usize,
+    pub place: usize,
 }
 
-// What a step comes to from a spot. Whoever keeps the types in a form of its own asks for no `Position`, and copies none.
-pub fn got_at(packets: &[u8], at: Spot, held: HeldTypes) -> Got
-    ensures { result ≡ got_of packets.now at held }
+// What a step comes to from a spot: a token, the end or a refusal. Whoever keeps the types in a form of its own asks for no
+// `Position`, and copies none.
+pub fn got_at(packets: &[u8], at: Spot, held: HeldTypes) -> Result<Option<Got>, Refusal>
+    ensures { numbered result ≡ got_of packets.now at held }
 {
-    match frames::resolve(packets, at.packet, at.place) {
-        Spotted::Refused(n) => Got::Refused(n),
-        Spotted::At(frame, place) => {
-            if !stands(at, held.sound) {
-                return Got::Refused(CUT);
-            }
-            if at.over {
-                return end_at(packets, frame, place);
-            }
-            match next_at(packets, frame, place, at, held) {
-                TokenRead::Refused(n) => Got::Refused(n),
-                TokenRead::Whole(token, next) => got_to(packets, frame, token, next),
-            }
-        },
+    let here = frames::resolve(packets, at.packet, at.place)?;
+    if !stands(at, held.sound) {
+        return Err(Refusal::Cut);
     }
+    if at.over {
+        return end_at(packets, here.frame, here.place);
+    }
+    let read = next_at(packets, here.frame, here.place, at, held)?;
+    Ok(Some(got_to(packets, here.frame, read.token, read.next)))
 }
 
 // A token after which the reader stands at a payload place: its packet is found from the frame that the token was read from.
@@ -208,33 +198,22 @@ fn got_to(packets: &[u8], frame: Frame, token: Token, next: usize) -> Got
     requires { next ≤ length packets.now }
     ensures { result ≡ got_in (frame_at packets.now frame next) token next }
 {
-    if next <= frame.end {
-        return Got::Token(
-            token,
-            frame.number,
-            packet::PACKET_HEADER_SIZE + minus(next, frame.base),
-        );
-    }
     let here = frames::frame_at(packets, frame, next);
-    Got::Token(
+    Got {
         token,
-        here.number,
-        packet::PACKET_HEADER_SIZE + minus(next, here.base),
-    )
+        packet: here.number,
+        place: packet::PACKET_HEADER_SIZE + next.saturating_sub(here.base),
+    }
 }
 
 // After the last DONE, where the packets must end.
-fn end_at(packets: &[u8], frame: Frame, place: usize) -> Got
-    ensures { result ≡ got_end (ending (source_from packets.now frame) place) }
+fn end_at(packets: &[u8], frame: Frame, place: usize) -> Result<Option<Got>, Refusal>
+    ensures { numbered result ≡ got_end (ending (source_from packets.now frame) place) }
 {
     match frames::reach(packets, frame, place, 1) {
-        Reached::In(_) => Got::Refused(INNER_WRONG),
-        Reached::Past(n) => {
-            if n == CUT {
-                return Got::End;
-            }
-            Got::Refused(n)
-        },
+        Ok(_) => Err(Refusal::InnerWrong),
+        Err(Refusal::Cut) => Ok(None),
+        Err(refusal) => Err(refusal),
     }
 }
 
@@ -260,8 +239,8 @@ fn held_in<'a>(at: Spot, types: &'a [u8; 128], limits: &'a [u16; 128]) -> HeldTy
     requires { (length types.now ≡ 128) × (length limits.now ≡ 128) }
     ensures { result ≡ held_in (holding at types.now limits.now) }
 {
-    let sound = are_types(types, limits, minus(at.count, at.columns_left));
-    let i = minus(at.count, at.cells_left);
+    let sound = are_types(types, limits, at.count.saturating_sub(at.columns_left));
+    let i = at.count.saturating_sub(at.cells_left);
     if i < MAX_COLUMNS {
         return HeldTypes {
             sound,
@@ -285,17 +264,21 @@ fn are_types<'a>(types: &'a [u8; 128], limits: &'a [u16; 128], n: usize) -> bool
         return false;
     }
     let mut all = true;
-    let mut i = 0;
-    while i < n {
+    for i in 0..n {
         all = cells::is_type(types[i], limits[i]) & all;
-        i += 1;
     }
     all
 }
 
 // The token at a payload place: a column or a cell that is to be read, else one by its first byte.
-fn next_at(packets: &[u8], frame: Frame, place: usize, at: Spot, held: HeldTypes) -> TokenRead
-    ensures { result ≡ token_read (next_by (source_from packets.now frame) place at held) }
+fn next_at(
+    packets: &[u8],
+    frame: Frame,
+    place: usize,
+    at: Spot,
+    held: HeldTypes,
+) -> Result<TokenAt, Refusal>
+    ensures { numbered result ≡ token_read (next_by (source_from packets.now frame) place at held) }
 {
     if 0 < at.columns_left {
         return token_reader::column_at(packets, frame, place);
@@ -307,13 +290,20 @@ fn next_at(packets: &[u8], frame: Frame, place: usize, at: Spot, held: HeldTypes
 }
 
 // The next cell of the current row, of its column's type.
-fn row_cell_at(packets: &[u8], frame: Frame, place: usize, code: u8, limit: u16) -> TokenRead
-    ensures { result ≡ token_read (cell_token (cell_at code limit (source_from packets.now frame) place)) }
+fn row_cell_at(
+    packets: &[u8],
+    frame: Frame,
+    place: usize,
+    code: u8,
+    limit: u16,
+) -> Result<TokenAt, Refusal>
+    ensures { numbered result ≡ token_read (cell_token (cell_at code limit (source_from packets.now frame) place)) }
 {
-    match cells::cell_at(packets, frame, place, code, limit) {
-        CellRead::Refused(n) => TokenRead::Refused(n),
-        CellRead::Whole(value, next) => TokenRead::Whole(Token::Cell(value), next),
-    }
+    let cell = cells::cell_at(packets, frame, place, code, limit)?;
+    Ok(TokenAt {
+        token: Token::Cell(cell.value),
+        next: cell.next,
+    })
 }
 
 // The spot after a token, in a packet and at a place of it: COLMETADATA begins a set and any DONE ends it, the last one ends
@@ -330,13 +320,13 @@ pub fn spot_after(at: Spot, token: Token, packet: usize, place: usize) -> Spot
             next.columns_left = n as usize;
         },
         Token::Column { .. } => {
-            next.columns_left = minus(at.columns_left, 1);
+            next.columns_left = at.columns_left.saturating_sub(1);
         },
         Token::Row => {
             next.cells_left = at.count;
         },
         Token::Cell(_) => {
-            next.cells_left = minus(at.cells_left, 1);
+            next.cells_left = at.cells_left.saturating_sub(1);
         },
         Token::Done { status, .. } => {
             next.count = 0;

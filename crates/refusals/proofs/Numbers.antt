@@ -1,5 +1,5 @@
 -- No refusal has the number 0, which stands for none. Assumes nothing.
-use mathlib.Core.Path.{◌≡◌}
+use mathlib.Core.Path.{◌≡◌, refl}
 use Prim.Native.Nat.{◌≤◌}
 use native.Mathlib.Omega.{arith}
 use Rattle.refusals.specs.Refused.{number}
@@ -47,3 +47,41 @@ number-some RowWithoutColumns = omega arith
 -- so it is not 0
 pub number-not-0 : (r : Refusal) → number r ≡ 0 → ⊥
 number-not-0 r e = omega (arith, number-some r)
+
+-- no other refusal has the number of a cut
+pub cut_alone : (r : Refusal) → number r ≡ 24 → r ≡ Cut
+cut_alone BatchEmpty e = absurd (omega (arith, e))
+cut_alone BatchTooShort e = absurd (omega (arith, e))
+cut_alone HeadersPastEnd e = absurd (omega (arith, e))
+cut_alone BatchNotUtf16 e = absurd (omega (arith, e))
+cut_alone TokenTooShort e = absurd (omega (arith, e))
+cut_alone OuterLength e = absurd (omega (arith, e))
+cut_alone InnerLength e = absurd (omega (arith, e))
+cut_alone HeaderTooShort e = absurd (omega (arith, e))
+cut_alone UnknownPacketType e = absurd (omega (arith, e))
+cut_alone NoTransactionType e = absurd (omega (arith, e))
+cut_alone CallCut e = absurd (omega (arith, e))
+cut_alone ParameterCut e = absurd (omega (arith, e))
+cut_alone ParameterNotRead e = absurd (omega (arith, e))
+cut_alone HeadersTooSmall e = absurd (omega (arith, e))
+cut_alone RecordCut e = absurd (omega (arith, e))
+cut_alone KindWrong e = absurd (omega (arith, e))
+cut_alone ShapeWrong e = absurd (omega (arith, e))
+cut_alone TextWrong e = absurd (omega (arith, e))
+cut_alone EmptyChunk e = absurd (omega (arith, e))
+cut_alone NameTooLong e = absurd (omega (arith, e))
+cut_alone ResultTooLong e = absurd (omega (arith, e))
+cut_alone InputTooLong e = absurd (omega (arith, e))
+cut_alone BufferTooShort e = absurd (omega (arith, e))
+cut_alone OddText e = absurd (omega (arith, e))
+cut_alone NotUtf16 e = absurd (omega (arith, e))
+cut_alone UnitWithoutByte e = absurd (omega (arith, e))
+cut_alone PacketSize e = absurd (omega (arith, e))
+cut_alone NotAReply e = absurd (omega (arith, e))
+cut_alone NotTheNext e = absurd (omega (arith, e))
+cut_alone EndBitWrong e = absurd (omega (arith, e))
+cut_alone Cut e = refl
+cut_alone UnknownToken e = absurd (omega (arith, e))
+cut_alone InnerWrong e = absurd (omega (arith, e))
+cut_alone TooManyColumns e = absurd (omega (arith, e))
+cut_alone RowWithoutColumns e = absurd (omega (arith, e))

@@ -1,26 +1,18 @@
 // The builders: `build_NAME LENT ARGUMENT..`, so many bytes of a buffer are lent; and `cut_payload LENT PAYLOAD SIZE`. The
 // answer is the bytes written, and the rest of the buffer is kept; of a refused call all of it.
 use crate::{calls, spaces, told, words};
-use response::Acknowledgement;
+use refusals::Refusal;
 
-// A builder's answer: a refusal, or 0 and how many bytes it wrote.
-#[derive(Clone, Copy)]
-struct Told {
-    refusal: u8,
-    len: usize,
-}
-
-// A name that no builder has; no line holds this number.
-const UNKNOWN: u8 = 255;
+// A builder's answer, or none where no builder has the name.
+type Told = Option<Result<usize, Refusal>>;
 
 pub(crate) fn holds(line: &[u8], name: &[u8]) -> bool {
     let mut buf = spaces::patterned();
     let lent = words::u64_at(line, 1) as usize;
-    let told = build_lent(line, name, &mut buf, lent);
-    if told.refusal == 0 {
-        is_written(line, &buf, told.len)
-    } else {
-        is_refused(line, &buf, told.refusal)
+    match build_lent(line, name, &mut buf, lent) {
+        Some(Ok(len)) => is_written(line, &buf, len),
+        Some(Err(refusal)) => is_refused(line, &buf, refusal),
+        None => false,
     }
 }
 
@@ -31,7 +23,7 @@ pub(crate) fn is_written(line: &[u8], buf: &[u8], len: usize) -> bool {
     calls::same_bytes(line, wire::part_of(buf, calls::first(len)))
 }
 
-pub(crate) fn is_refused(line: &[u8], buf: &[u8], refusal: u8) -> bool {
+pub(crate) fn is_refused(line: &[u8], buf: &[u8], refusal: Refusal) -> bool {
     if !calls::is_kept(buf, 0) {
         return false;
     }
@@ -49,13 +41,13 @@ fn build_lent(line: &[u8], name: &[u8], buf: &mut [u8], lent: usize) -> Told {
 
 // Builders by the beginning of their names.
 fn build(line: &[u8], name: &[u8], buf: &mut [u8]) -> Told {
-    if words::piece(name, 6, b'_') == b"query".as_slice() {
+    if name.starts_with(b"build_query_") {
         return build_result(line, name, buf);
     }
     if name == b"cut_payload".as_slice() {
         return cut(line, buf);
     }
-    if words::piece(name, 6, b'_') == b"prelogin".as_slice() {
+    if name.starts_with(b"build_prelogin_") {
         return build_prelogin(line, name, buf);
     }
     build_fixed(line, name, buf)
@@ -64,14 +56,14 @@ fn build(line: &[u8], name: &[u8], buf: &mut [u8]) -> Told {
 // Builders that take numbers, or nothing.
 fn build_fixed(line: &[u8], name: &[u8], buf: &mut [u8]) -> Told {
     match name {
-        b"build_login_ack" => told_of(response::build_login_ack(buf)),
-        b"build_attention_ack_packet" => told_of(response::build_attention_ack_packet(buf)),
+        b"build_login_ack" => Some(response::build_login_ack(buf)),
+        b"build_attention_ack_packet" => Some(response::build_attention_ack_packet(buf)),
         b"build_transaction_manager_response" => {
             let kind = words::u16_at(line, 2);
-            told_of(response::build_transaction_manager_response(kind, buf))
+            Some(response::build_transaction_manager_response(kind, buf))
         }
-        b"build_done_token" => told_of(response::build_done_token(words::u64_at(line, 2), buf)),
-        b"build_done_token_with_status" => told_of(response::build_done_token_with_status(
+        b"build_done_token" => Some(response::build_done_token(words::u64_at(line, 2), buf)),
+        b"build_done_token_with_status" => Some(response::build_done_token_with_status(
             words::u16_at(line, 2),
             words::u64_at(line, 3),
             buf,
@@ -93,15 +85,15 @@ fn build_result(line: &[u8], name: &[u8], buf: &mut [u8]) -> Told {
 // Those of one packet.
 fn build_packet(name: &[u8], script: &[u8], buf: &mut [u8]) -> Told {
     match name {
-        b"build_query_results" => told_result(result::build_query_results(script, buf)),
-        b"build_query_result" => told_result(result::build_query_result(script, buf)),
-        b"build_query_result_with_trailing_info" => told_result(
+        b"build_query_results" => Some(result::build_query_results(script, buf)),
+        b"build_query_result" => Some(result::build_query_result(script, buf)),
+        b"build_query_result_with_trailing_info" => Some(
             result::build_query_result_with_trailing_info(script, buf),
         ),
-        b"build_query_result_with_extras" => told_result(result::build_query_result_with_extras(
+        b"build_query_result_with_extras" => Some(result::build_query_result_with_extras(
             script, buf,
         )),
-        _ => unknown(),
+        _ => None,
     }
 }
 
@@ -111,45 +103,45 @@ fn build_packets(line: &[u8], buf: &mut [u8]) -> Told {
     let mut space = spaces::zeros();
     let n = words::bytes_at(line, 2, &mut space);
     let script = wire::part_of(&space, calls::first(n));
-    told_result(result::build_query_results_in_packets(script, size, buf))
+    Some(result::build_query_results_in_packets(script, size, buf))
 }
 
 fn cut(line: &[u8], buf: &mut [u8]) -> Told {
     let size = words::u64_at(line, 3) as usize;
     let mut space = spaces::zeros();
     let n = words::bytes_at(line, 2, &mut space);
-    told_of(response::cut_payload(wire::part_of(&space, calls::first(n)), size, buf))
+    Some(response::cut_payload(wire::part_of(&space, calls::first(n)), size, buf))
 }
 
 fn build_prelogin(line: &[u8], name: &[u8], buf: &mut [u8]) -> Told {
     let encryption = words::bool_at(line, 2);
     let fedauth = words::bool_at(line, 3);
     match name {
-        b"build_prelogin_response" => told_of(response::build_prelogin_response(buf)),
-        b"build_prelogin_response_with_encryption" => told_of(
+        b"build_prelogin_response" => Some(response::build_prelogin_response(buf)),
+        b"build_prelogin_response_with_encryption" => Some(
             response::build_prelogin_response_with_encryption(encryption, buf),
         ),
-        b"build_prelogin_response_with_fedauth" => told_of(
+        b"build_prelogin_response_with_fedauth" => Some(
             response::build_prelogin_response_with_fedauth(encryption, fedauth, buf),
         ),
-        b"build_prelogin_response_with_options" => told_of(
+        b"build_prelogin_response_with_options" => Some(
             response::build_prelogin_response_with_options(encryption, fedauth, buf),
         ),
-        _ => unknown(),
+        _ => None,
     }
 }
 
 // FEATUREEXTACK tokens.
 fn build_ack(line: &[u8], name: &[u8], buf: &mut [u8]) -> Told {
     match name {
-        b"build_feature_ext_ack_fedauth" => told_of(response::build_feature_ext_ack_fedauth(buf)),
+        b"build_feature_ext_ack_fedauth" => Some(response::build_feature_ext_ack_fedauth(buf)),
         b"build_feature_ext_ack_data_classification" => {
             let version = words::u8_at(line, 2);
-            told_of(response::build_feature_ext_ack_data_classification(version, buf))
+            Some(response::build_feature_ext_ack_data_classification(version, buf))
         }
         b"build_feature_ext_ack_enhanced_routing" => {
             let enabled = words::u8_at(line, 2);
-            told_of(response::build_feature_ext_ack_enhanced_routing(enabled, buf))
+            Some(response::build_feature_ext_ack_enhanced_routing(enabled, buf))
         }
         _ => {
             let mut space = spaces::zeros();
@@ -162,14 +154,14 @@ fn build_ack(line: &[u8], name: &[u8], buf: &mut [u8]) -> Told {
 // Builders whose first argument is a text or a list.
 fn build_first(line: &[u8], name: &[u8], one: &[u8], buf: &mut [u8]) -> Told {
     match name {
-        b"build_feature_ext_ack" => told_of(response::build_feature_ext_ack(one, buf)),
-        b"build_error_response" => told_of(response::build_error_response(one, buf)),
-        b"build_routing_envchange_token" => told_of(response::build_routing_envchange_token(
+        b"build_feature_ext_ack" => Some(response::build_feature_ext_ack(one, buf)),
+        b"build_error_response" => Some(response::build_error_response(one, buf)),
+        b"build_routing_envchange_token" => Some(response::build_routing_envchange_token(
             one,
             words::u16_at(line, 3),
             buf,
         )),
-        b"build_routing_response" => told_of(response::build_routing_response(
+        b"build_routing_response" => Some(response::build_routing_response(
             one,
             words::u16_at(line, 3),
             buf,
@@ -181,17 +173,17 @@ fn build_first(line: &[u8], name: &[u8], one: &[u8], buf: &mut [u8]) -> Told {
 // Builders of two texts, or of a text and a list.
 fn build_second(line: &[u8], name: &[u8], one: &[u8], buf: &mut [u8]) -> Told {
     let mut space = spaces::zeros();
-    if words::piece(name, 6, b'_') == b"fedauth".as_slice() {
+    if name.starts_with(b"build_fedauth_") {
         let n = words::bytes_at(line, 3, &mut space);
         return build_fedauth(name, one, wire::part_of(&space, calls::first(n)), buf);
     }
     let n = words::bytes_at(line, 4, &mut space);
     let two = wire::part_of(&space, calls::first(n));
     match name {
-        b"build_enhanced_routing_envchange_token" => told_of(
+        b"build_enhanced_routing_envchange_token" => Some(
             response::build_enhanced_routing_envchange_token(one, words::u16_at(line, 3), two, buf),
         ),
-        b"build_routing_login_response" => told_of(response::build_routing_login_response(
+        b"build_routing_login_response" => Some(response::build_routing_login_response(
             one,
             words::u16_at(line, 3),
             two,
@@ -205,20 +197,17 @@ fn build_second(line: &[u8], name: &[u8], one: &[u8], buf: &mut [u8]) -> Told {
 }
 
 // The acknowledgement of enhanced routing that a number stands for: a byte, and none from 256 on.
-fn acknowledgement(ack: u16) -> Acknowledgement {
-    if 256 <= ack {
-        return Acknowledgement::Missing;
-    }
-    Acknowledgement::IsEnabled(ack as u8)
+fn acknowledgement(ack: u16) -> Option<u8> {
+    u8::try_from(ack).ok()
 }
 
 fn build_fedauth(name: &[u8], url: &[u8], spn: &[u8], buf: &mut [u8]) -> Told {
     match name {
-        b"build_fedauth_challenge_response" => told_of(response::build_fedauth_challenge_response(
+        b"build_fedauth_challenge_response" => Some(response::build_fedauth_challenge_response(
             url, spn, buf,
         )),
-        b"build_fedauth_info_token" => told_of(response::build_fedauth_info_token(url, spn, buf)),
-        _ => unknown(),
+        b"build_fedauth_info_token" => Some(response::build_fedauth_info_token(url, spn, buf)),
+        _ => None,
     }
 }
 
@@ -227,14 +216,14 @@ fn build_message(line: &[u8], name: &[u8], message: &[u8], buf: &mut [u8]) -> To
     let number = words::u32_at(line, 2);
     let severity = words::u8_at(line, 3);
     match name {
-        b"build_leading_error_tokens" => told_of(response::build_leading_error_tokens(
+        b"build_leading_error_tokens" => Some(response::build_leading_error_tokens(
             number, severity, message, buf,
         )),
-        b"build_terminal_error_tokens" => told_of(response::build_terminal_error_tokens(
+        b"build_terminal_error_tokens" => Some(response::build_terminal_error_tokens(
             number, severity, message, buf,
         )),
         b"build_info_token" => build_info(line, number, buf),
-        _ => unknown(),
+        _ => None,
     }
 }
 
@@ -245,7 +234,7 @@ fn build_info(line: &[u8], number: u32, buf: &mut [u8]) -> Told {
     let m = words::bytes_at(line, 5, &mut message);
     let s = words::bytes_at(line, 6, &mut server);
     let p = words::bytes_at(line, 7, &mut procedure);
-    told_of(response::build_info_token(
+    Some(response::build_info_token(
         number,
         words::u8_at(line, 3),
         words::u8_at(line, 4),
@@ -255,25 +244,4 @@ fn build_info(line: &[u8], number: u32, buf: &mut [u8]) -> Told {
         words::u32_at(line, 8),
         buf,
     ))
-}
-
-fn told_result(built: result::Built) -> Told {
-    match built {
-        result::Built::Written(len) => Told { refusal: 0, len },
-        result::Built::Refused(refusal) => Told { refusal, len: 0 },
-    }
-}
-
-fn told_of(built: response::Built) -> Told {
-    match built {
-        response::Built::Written(len) => Told { refusal: 0, len },
-        response::Built::Refused(refusal) => Told { refusal, len: 0 },
-    }
-}
-
-fn unknown() -> Told {
-    Told {
-        refusal: UNKNOWN,
-        len: 0,
-    }
 }

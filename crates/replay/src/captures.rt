@@ -1,6 +1,6 @@
 // Captures of requests.
 use crate::{told, words};
-use capture_marks::Marked;
+use refusals::Refusal;
 
 // The most slots that are lent, and what they hold before a call.
 const SLOTS: usize = 64;
@@ -12,22 +12,20 @@ pub(crate) fn marks(line: &[u8], input: &[u8], out: &mut [u8]) -> usize {
     let mut slots = [PATTERN; SLOTS];
     let lent = words::u64_at(line, 1) as usize;
     match marks_lent(input, &mut slots, lent) {
-        Marked::Count(count) => {
+        Ok(count) => {
             let at = told::number(out, 0, count as u64);
             tell_slots(&slots, count, out, at)
         }
-        Marked::Refused(number) => {
-            let at = told::refused(out, 0, number);
+        Err(refusal) => {
+            let at = told::refused(out, 0, refusal);
             tell_slots(&slots, 0, out, at)
         }
     }
 }
 
-fn marks_lent(capture: &[u8], slots: &mut [u64], lent: usize) -> Marked {
-    if lent < slots.len() {
-        return capture_marks::marks(capture, &mut slots[..lent]);
-    }
-    capture_marks::marks(capture, slots)
+fn marks_lent(capture: &[u8], slots: &mut [u64], lent: usize) -> Result<usize, Refusal> {
+    let lent = lent.min(slots.len());
+    capture_marks::marks(capture, &mut slots[..lent])
 }
 
 // The first slots, and a word that no line holds where one of the others was written.

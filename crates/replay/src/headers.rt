@@ -1,17 +1,16 @@
 // A packet header that is written: `write_header TYPE STATUS LENGTH SPID NUMBER WINDOW`. The answer is its bytes at the
 // front of a buffer, whose rest is kept; of an unknown type all of it.
 use crate::{builds, spaces, words};
-use packet::{KnownType, PacketHeader, PacketStatus, PacketType};
-use refusals::UNKNOWN_PACKET_TYPE;
+use packet::{PacketHeader, PacketStatus, PacketType};
 
 pub(crate) fn holds(line: &[u8]) -> bool {
     let mut buf = spaces::patterned();
     match PacketType::try_from(words::u8_at(line, 1)) {
-        KnownType::Known(packet_type) => {
+        Ok(packet_type) => {
             let len = header(line, packet_type).write(&mut buf, 0);
             builds::is_written(line, &buf, len)
         }
-        KnownType::Unknown => builds::is_refused(line, &buf, UNKNOWN_PACKET_TYPE),
+        Err(refusal) => builds::is_refused(line, &buf, refusal),
     }
 }
 

@@ -1,7 +1,7 @@
 // Event labels: `read_label LENT VALUE` and `write_label LENT TEXT`, so many bytes of a buffer are lent. The answer is `text`
 // or `value` with the bytes written, and the rest of the buffer is kept; of `null` and of a refused call all of it.
 use crate::{builds, calls, spaces, words};
-use windows1252::{Label, Written};
+use refusals::Refusal;
 
 pub(crate) fn holds(line: &[u8], name: &[u8]) -> bool {
     let mut space = spaces::zeros();
@@ -17,13 +17,13 @@ fn is_read(line: &[u8], value: &[u8]) -> bool {
     let mut buf = spaces::patterned();
     let lent = words::u64_at(line, 1) as usize;
     match read_lent(value, &mut buf, lent) {
-        Label::Text(len) => is_told(line, b"text", &buf, len),
-        Label::Null => is_null(line, &buf),
-        Label::Refused(number) => builds::is_refused(line, &buf, number),
+        Ok(Some(len)) => is_told(line, b"text", &buf, len),
+        Ok(None) => is_null(line, &buf),
+        Err(refusal) => builds::is_refused(line, &buf, refusal),
     }
 }
 
-fn read_lent(value: &[u8], buf: &mut [u8], lent: usize) -> Label {
+fn read_lent(value: &[u8], buf: &mut [u8], lent: usize) -> Result<Option<usize>, Refusal> {
     if lent < buf.len() {
         return windows1252::read_value(value, &mut buf[..lent]);
     }
@@ -41,12 +41,12 @@ fn is_written(line: &[u8], text: &[u8]) -> bool {
     let mut buf = spaces::patterned();
     let lent = words::u64_at(line, 1) as usize;
     match write_lent(text, &mut buf, lent) {
-        Written::Value(len) => is_told(line, b"value", &buf, len),
-        Written::Refused(number) => builds::is_refused(line, &buf, number),
+        Ok(len) => is_told(line, b"value", &buf, len),
+        Err(refusal) => builds::is_refused(line, &buf, refusal),
     }
 }
 
-fn write_lent(text: &[u8], buf: &mut [u8], lent: usize) -> Written {
+fn write_lent(text: &[u8], buf: &mut [u8], lent: usize) -> Result<usize, Refusal> {
     if lent < buf.len() {
         return windows1252::write_value(text, &mut buf[..lent]);
     }

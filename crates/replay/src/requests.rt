@@ -1,15 +1,14 @@
 // Texts, packet headers and what clients send.
 use crate::told;
-use packet::{PacketHeader, PacketStatus, Parsed};
-use refusals::NONE;
-use request::{Batch, Descriptor, FedAuthToken, TransactionRequest};
+use packet::PacketHeader;
+use request::Descriptor;
 use wire::Part;
 
 // TYPE STATUS LENGTH SPID NUMBER WINDOW, then 1 or 0 for end of message and for ignore
 pub(crate) fn header(input: &[u8], out: &mut [u8]) -> usize {
     match PacketHeader::parse(input) {
-        Parsed::Header(header) => tell_header(header, out),
-        Parsed::Refused(number) => told::refused(out, 0, number),
+        Ok(header) => tell_header(header, out),
+        Err(refusal) => told::refused(out, 0, refusal),
     }
 }
 
@@ -23,8 +22,8 @@ fn tell_header(header: PacketHeader, out: &mut [u8]) -> usize {
         header.spid as u64,
         header.packet_id as u64,
         header.window as u64,
-        told::flag(PacketStatus::is_end_of_message(status)),
-        told::flag(PacketStatus::is_ignore(status)),
+        told::flag(status.is_end_of_message()),
+        told::flag(status.is_ignore()),
     ];
     told::numbers(out, 0, &values)
 }
@@ -37,10 +36,13 @@ pub(crate) fn whitespace(input: &[u8], out: &mut [u8]) -> usize {
 
 // UNITS CHARACTERS BYTES-AS-UTF-8, then 1 or 0 for a surrogate pair
 pub(crate) fn counts(input: &[u8], out: &mut [u8]) -> usize {
-    let fault = text::text_fault(input);
-    if fault != NONE {
-        return told::refused(out, 0, fault);
+    match text::text_fault(input) {
+        Ok(()) => tell_counts(input, out),
+        Err(refusal) => told::refused(out, 0, refusal),
     }
+}
+
+fn tell_counts(input: &[u8], out: &mut [u8]) -> usize {
     let values = [
         text::units(input) as u64,
         text::characters(input) as u64,
@@ -53,34 +55,34 @@ pub(crate) fn counts(input: &[u8], out: &mut [u8]) -> usize {
 // START LENGTH
 pub(crate) fn batch(input: &[u8], out: &mut [u8]) -> usize {
     match request::parse_sql_batch(input) {
-        Batch::Text(part) => tell_part(part, out),
-        Batch::Refused(number) => told::refused(out, 0, number),
+        Ok(part) => tell_part(part, out),
+        Err(refusal) => told::refused(out, 0, refusal),
     }
 }
 
 // TYPE
 pub(crate) fn transaction(input: &[u8], out: &mut [u8]) -> usize {
     match request::parse_transaction_manager_request(input) {
-        TransactionRequest::RequestType(kind) => told::number(out, 0, kind as u64),
-        TransactionRequest::Refused(number) => told::refused(out, 0, number),
+        Ok(kind) => told::number(out, 0, kind as u64),
+        Err(refusal) => told::refused(out, 0, refusal),
     }
 }
 
 // DESCRIPTOR COUNT, or none
 pub(crate) fn descriptor(input: &[u8], out: &mut [u8]) -> usize {
     match request::parse_transaction_descriptor_header(input) {
-        Descriptor::Found { descriptor, count } => {
+        Some(Descriptor { descriptor, count }) => {
             told::numbers(out, 0, &[descriptor, count as u64])
         }
-        Descriptor::Missing => told::word(out, 0, b"none"),
+        None => told::word(out, 0, b"none"),
     }
 }
 
 // START LENGTH
 pub(crate) fn fedauth(input: &[u8], out: &mut [u8]) -> usize {
     match request::parse_fedauth_token(input) {
-        FedAuthToken::Bytes(part) => tell_part(part, out),
-        FedAuthToken::Refused(number) => told::refused(out, 0, number),
+        Ok(part) => tell_part(part, out),
+        Err(refusal) => told::refused(out, 0, refusal),
     }
 }
 

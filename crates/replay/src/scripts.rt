@@ -1,7 +1,7 @@
 // The room for replies, and the fit check.
 use crate::{told, words};
-use fit::{Fit, Misfit};
-use result::Built;
+use fit::Misfit;
+use refusals::Refusal;
 
 // The room for a script's reply.
 pub(crate) fn room(input: &[u8], out: &mut [u8]) -> usize {
@@ -16,19 +16,19 @@ pub(crate) fn room_in_packets(line: &[u8], input: &[u8], out: &mut [u8]) -> usiz
     )
 }
 
-fn tell_room(room: Built, out: &mut [u8]) -> usize {
+fn tell_room(room: Result<usize, Refusal>, out: &mut [u8]) -> usize {
     match room {
-        Built::Written(n) => told::number(out, 0, n as u64),
-        Built::Refused(number) => told::refused(out, 0, number),
+        Ok(n) => told::number(out, 0, n as u64),
+        Err(refusal) => told::refused(out, 0, refusal),
     }
 }
 
 // fits, or the first misfit: class SET, column SET COLUMN or cell SET ROW COLUMN
 pub(crate) fn fits(input: &[u8], out: &mut [u8]) -> usize {
     match fit::check(input) {
-        Fit::Yes => told::word(out, 0, b"fits"),
-        Fit::No(misfit) => tell_misfit(misfit, out),
-        Fit::Refused(number) => told::refused(out, 0, number),
+        Ok(None) => told::word(out, 0, b"fits"),
+        Ok(Some(misfit)) => tell_misfit(misfit, out),
+        Err(refusal) => told::refused(out, 0, refusal),
     }
 }
 

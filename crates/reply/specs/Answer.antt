@@ -1,9 +1,7 @@
 -- What the program writes of its input. Rests on the reply builder's answer.
-use Rattle.std.specs.Prelude.{ℕ, cond, List, [], ◌∷◌, ◌++◌, length, leb, codes, decimal}
+use Rattle.std.specs.Prelude.{ℕ, Result, Ok, Err, cond, List, [], ◌∷◌, ◌++◌, length, leb, codes, decimal}
 use Rattle.refusals.specs.Numbers.{input_too_long}
 use Rattle.emission.specs.Emission.{reply_of}
-use Rattle.result.specs.declared.Built.{Built}
-use Rattle.result.specs.declared.Built.TheVariants.{Written, Refused}
 use Rattle.result.specs.Built.{built_of}
 
 -- the line `refused N`
@@ -11,9 +9,9 @@ abbrev pub line_of : ℕ → List ℕ
 line_of n = codes "refused " ++ decimal n ++ 10 ∷ []
 
 -- the reply that was built, or the line of the refusal
-abbrev pub told : Built → List ℕ → List ℕ
-told (Written n) reply = reply
-told (Refused f) reply = line_of f
+abbrev pub told : Result ℕ ℕ → List ℕ → List ℕ
+told (Ok n) reply = reply
+told (Err f) reply = line_of f
 
 -- of a script its reply packet, or the line of its refusal
 unfoldable pub reply_to : List ℕ → List ℕ

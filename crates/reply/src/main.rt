@@ -3,10 +3,10 @@
 
 ghost use Rattle.std.specs.Prelude.{IfSome, OnOk};
 ghost use Rattle.std.specs.Io.KnownBytes.{Appends};
+ghost use Rattle.refusals.specs.Refused.{number};
 ghost use Rattle.reply.specs.Answer.{line_of, reply_to, answer_to};
 
-use refusals::INPUT_TOO_LONG;
-use result::Built;
+use refusals::Refusal;
 use std::io;
 use std::io::{Read, Write};
 use wire::Part;
@@ -40,7 +40,7 @@ fn answer_input<R: Read, W: Write>(from: &mut R, out: &mut W) -> io::Result<()>
     if n <= MOST {
         reply(out, wire::part_of(&input, Part { start: 0, len: n }))
     } else {
-        refused(out, INPUT_TOO_LONG)
+        refused(out, Refusal::InputTooLong)
     }
 }
 
@@ -49,7 +49,7 @@ fn reply<W: Write>(out: &mut W, script: &[u8]) -> io::Result<()>
 {
     let mut packet = [0u8; PACKET];
     match result::build_query_results(script, &mut packet) {
-        Built::Written(length) => write(
+        Ok(length) => write(
             out,
             wire::part_of(
                 &packet,
@@ -59,14 +59,15 @@ fn reply<W: Write>(out: &mut W, script: &[u8]) -> io::Result<()>
                 },
             ),
         ),
-        Built::Refused(number) => refused(out, number),
+        Err(refusal) => refused(out, refusal),
     }
 }
 
 // The line `refused N`.
-fn refused<W: Write>(out: &mut W, number: u8) -> io::Result<()>
-    ensures { OnOk result (Appends (W.contents out.old) (W.contents out.new) (line_of number)) }
+fn refused<W: Write>(out: &mut W, refusal: Refusal) -> io::Result<()>
+    ensures { OnOk result (Appends (W.contents out.old) (W.contents out.new) (line_of (number refusal))) }
 {
+    let number = refusal.number();
     writeln!(out, "refused {number}")
 }
 

@@ -37,6 +37,7 @@ pub struct Descriptor {
 }
 
 // The length of the headers block, for every request that begins with one.
+#[tactic(auto, unfolding(crate::specs::Headers::all_headers))]
 pub fn all_headers(body: &[u8]) -> Result<usize, HeadersFault>
     ensures { result ≡ all_headers body.now }
 {
@@ -54,6 +55,7 @@ pub fn all_headers(body: &[u8]) -> Result<usize, HeadersFault>
 }
 
 // The text of a batch as a part of it, without white space at its ends.
+#[tactic(auto, using(crate::proofs::Blocks::block_in), unfolding(crate::specs::Batch::sql_batch))]
 pub fn parse_sql_batch(body: &[u8]) -> Result<Part, Refusal>
     ensures { numbered result ≡ sql_batch body.now }
 {
@@ -87,6 +89,7 @@ fn batch_text(body: &[u8], at: usize) -> Result<Part, Refusal>
 }
 
 // The type of a transaction manager request, as MS-TDS numbers them, which stands after the headers.
+#[tactic(auto, unfolding(crate::specs::Transaction::transaction_request))]
 pub fn parse_transaction_manager_request(body: &[u8]) -> Result<u16, Refusal>
     ensures { numbered result ≡ transaction_request body.now }
 {
@@ -104,6 +107,7 @@ pub fn parse_transaction_manager_request(body: &[u8]) -> Result<u16, Refusal>
 }
 
 // The transaction descriptor header of a request, if one is present.
+#[tactic(auto, using(crate::proofs::Blocks::block_in), unfolding(crate::specs::Transaction::transaction_descriptor))]
 pub fn parse_transaction_descriptor_header(body: &[u8]) -> Option<Descriptor>
     ensures { result ≡ transaction_descriptor body.now }
 {
@@ -139,6 +143,7 @@ fn descriptor_in(block: &[u8]) -> Option<Descriptor>
 }
 
 // The token of a token message as a part of the packet's payload.
+#[tactic(auto, unfolding(crate::specs::FedAuth::fed_auth_token))]
 pub fn parse_fedauth_token(payload: &[u8]) -> Result<Part, Refusal>
     ensures { numbered result ≡ fed_auth_token payload.now }
 {

@@ -19,7 +19,8 @@ use token::name_fault;
 
 const MOST_BYTES: usize = 65535;
 
-// The refusal of a reply of a size, whose arguments none met: 17, then 20.
+// The refusal of a reply of a size, after those of its arguments: 17, then 20.
+#[tactic(auto, unfolding(crate::specs::Answer::refusal_of, crate::specs::Answer::first_of))]
 pub(crate) fn refusal(size: usize, room: usize) -> Result<(), Refusal>
     ensures { refused_by result ≡ refusal_of 0 size room }
 {
@@ -47,25 +48,15 @@ pub(crate) fn texts_fault(a: &[u8], b: &[u8]) -> Result<(), Refusal>
     text_fault(b)
 }
 
-// The refusal of an info's two names by their lengths.
-fn names_fault(server: &[u8], procedure: &[u8]) -> Result<(), Refusal>
-    ensures { refused_by result ≡ first_of (name_fault server.now ∷ name_fault procedure.now ∷ []) }
-{
-    name_fault(server)?;
-    name_fault(procedure)
-}
-
 // The refusal of an info's texts.
 pub(crate) fn info_fault(message: &[u8], server: &[u8], procedure: &[u8]) -> Result<(), Refusal>
     ensures { refused_by result ≡ first_of (text_fault message.now ∷ text_fault server.now ∷ text_fault procedure.now ∷ name_fault server.now ∷ name_fault procedure.now ∷ []) }
 {
     text_fault(message)?;
     texts_fault(server, procedure)?;
-    names_fault(server, procedure)
+    name_fault(server)?;
+    name_fault(procedure)
 }
-
-// The size of FEDAUTHINFO without its texts.
-const FEDAUTH_INFO_SIZE: usize = 27;
 
 // The size of a list of routes, or the refusal of their host or of one of them.
 pub(crate) fn measure_routing(routes: &[u8], to: &Routes) -> Result<usize, Refusal>
@@ -74,6 +65,9 @@ pub(crate) fn measure_routing(routes: &[u8], to: &Routes) -> Result<usize, Refus
     text_fault(to.host)?;
     measure_records(routes, to)
 }
+
+// The size of FEDAUTHINFO without its texts.
+const FEDAUTH_INFO_SIZE: usize = 27;
 
 // The size of FEDAUTHINFO, as far as it counts.
 pub(crate) fn fedauth_info_size(sts_url: &[u8], spn: &[u8]) -> usize

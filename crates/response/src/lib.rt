@@ -109,16 +109,12 @@ pub fn build_prelogin_response_with_options(
     ensures value { numbered result ≡ built_of (prelogin_reply supports_encryption supports_fedauth) buf.old }
     ensures buf_after { buf.new ≡ buffer_of (prelogin_reply supports_encryption supports_fedauth) buf.old }
 {
-    if supports_fedauth {
-        if supports_encryption {
-            return fixed(&PRELOGIN_ENCRYPTED_FEDAUTH, buf);
-        }
-        return fixed(&PRELOGIN_FEDAUTH, buf);
+    match (supports_encryption, supports_fedauth) {
+        (false, false) => fixed(&PRELOGIN, buf),
+        (true, false) => fixed(&PRELOGIN_ENCRYPTED, buf),
+        (false, true) => fixed(&PRELOGIN_FEDAUTH, buf),
+        (true, true) => fixed(&PRELOGIN_ENCRYPTED_FEDAUTH, buf),
     }
-    if supports_encryption {
-        return fixed(&PRELOGIN_ENCRYPTED, buf);
-    }
-    fixed(&PRELOGIN, buf)
 }
 
 // FEATUREEXTACK of FEDAUTH, without data.
@@ -259,16 +255,12 @@ pub fn build_transaction_manager_response(
     ensures value { numbered result ≡ built_of (transaction_reply request_type) buf.old }
     ensures buf_after { buf.new ≡ buffer_of (transaction_reply request_type) buf.old }
 {
-    if request_type == TM_BEGIN_XACT {
-        return fixed(&BEGUN, buf);
+    match request_type {
+        TM_BEGIN_XACT => fixed(&BEGUN, buf),
+        TM_COMMIT_XACT => fixed(&COMMITTED, buf),
+        TM_ROLLBACK_XACT => fixed(&ROLLED_BACK, buf),
+        _ => build_done_token(0, buf),
     }
-    if request_type == TM_COMMIT_XACT {
-        return fixed(&COMMITTED, buf);
-    }
-    if request_type == TM_ROLLBACK_XACT {
-        return fixed(&ROLLED_BACK, buf);
-    }
-    build_done_token(0, buf)
 }
 
 // INFO, by the fields of `InfoMessage`.
@@ -418,6 +410,7 @@ pub fn build_routing_response(
     )
 }
 
+#[tactic(auto, unfolding(crate::specs::Replies::database_route_reply, crate::specs::Lists::route_bytes))]
 pub fn build_enhanced_routing_envchange_token(
     redirect_host: &[u8],
     redirect_port: u16,

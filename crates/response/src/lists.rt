@@ -14,6 +14,7 @@ use script::Found;
 
 // What the records of a list are: which of them is refused, and which bytes each becomes.
 pub(crate) trait Listed {
+    // By a record's kind and payload: its refusal, or 0; how many bytes it becomes; the bytes.
     ghost record_fault: { ℕ → List ℕ → ℕ };
 
     ghost record_size: { Self → ℕ → List ℕ → ℕ };
@@ -47,16 +48,16 @@ impl Listed for Features {
 
     ghost record_bytes = { λ of k p. feature_bytes p };
 
+    #[tactic(auto, unfolding(crate::specs::Lists::feature_fault))]
     fn check(&self, kind: u16, p: &[u8]) -> Result<(), Refusal> {
-        if kind != FEATURE {
-            return Err(Refusal::KindWrong);
+        match kind {
+            FEATURE if p.is_empty() => Err(Refusal::ShapeWrong),
+            FEATURE => Ok(()),
+            _ => Err(Refusal::KindWrong),
         }
-        if p.len() == 0 {
-            return Err(Refusal::ShapeWrong);
-        }
-        Ok(())
     }
 
+    #[tactic(auto, unfolding(crate::specs::Inner::feature_size))]
     fn size(&self, _kind: u16, p: &[u8]) -> usize {
         capped(FEATURE_SIZE + capped(wire::left(p, 1)))
     }
@@ -87,25 +88,19 @@ impl<'a> Listed for Routes<'a> {
 
     ghost record_bytes = { λ to k p. route_bytes to.host.now to.port k p };
 
+    #[tactic(auto, unfolding(crate::specs::Lists::route_fault))]
     fn check(&self, kind: u16, p: &[u8]) -> Result<(), Refusal> {
-        if kind == PLAIN_ROUTE {
-            if p.len() != 0 {
-                return Err(Refusal::ShapeWrong);
-            }
-            return Ok(());
+        match kind {
+            PLAIN_ROUTE if p.is_empty() => Ok(()),
+            PLAIN_ROUTE => Err(Refusal::ShapeWrong),
+            DATABASE_ROUTE if p.len() % 2 != 0 => Err(Refusal::ShapeWrong),
+            DATABASE_ROUTE if text::is_well_formed(p) => Ok(()),
+            DATABASE_ROUTE => Err(Refusal::TextWrong),
+            _ => Err(Refusal::KindWrong),
         }
-        if kind != DATABASE_ROUTE {
-            return Err(Refusal::KindWrong);
-        }
-        if p.len() % 2 != 0 {
-            return Err(Refusal::ShapeWrong);
-        }
-        if !text::is_well_formed(p) {
-            return Err(Refusal::TextWrong);
-        }
-        Ok(())
     }
 
+    #[tactic(auto, unfolding(crate::specs::Inner::route_size))]
     fn size(&self, kind: u16, p: &[u8]) -> usize {
         if kind == PLAIN_ROUTE {
             return capped(PLAIN_ROUTE_SIZE + capped(self.host.len()));
@@ -113,6 +108,7 @@ impl<'a> Listed for Routes<'a> {
         capped(DATABASE_ROUTE_SIZE + capped(self.host.len()) + capped(p.len()))
     }
 
+    #[tactic(auto, unfolding(crate::specs::Lists::route_bytes))]
     fn put(&self, buf: &mut [u8], at: usize, kind: u16, p: &[u8]) -> usize {
         if kind == PLAIN_ROUTE {
             return put_plain_route(buf, at, self.host, self.port);

@@ -167,24 +167,22 @@ fn put_login_ack(buf: &mut [u8], at: usize, sent: bool) -> usize
     ensures { Wrote buf.old at (cond sent login_ack_token []) buf.new result }
 {
     if sent {
-        return wire::put_slice(buf, at, &LOGIN_ACK);
+        wire::put_slice(buf, at, &LOGIN_ACK)
+    } else {
+        put_nothing(buf, at)
     }
-    put_nothing(buf, at)
 }
 
 // The acknowledgement of enhanced routing, where it is sent.
 fn put_routing_ack(buf: &mut [u8], at: usize, sent: bool, ack: Option<u8>) -> usize
     ensures { Wrote buf.old at (cond sent (routing_ack ack) []) buf.new result }
 {
-    if !sent {
-        return put_nothing(buf, at);
-    }
     match ack {
-        Some(enabled) => {
+        Some(enabled) if sent => {
             let features = [2, 0, 0, 0, 0x13, 0, 0x0F, enabled];
             put_feature_ext_ack(buf, at, &features)
         }
-        None => put_nothing(buf, at),
+        _ => put_nothing(buf, at),
     }
 }
 

@@ -2,30 +2,38 @@
 use mathlib.Core.Path.{◌≡◌, sym, ap, ◌∙◌}
 use mathlib.Core.Bool.{true, false}
 use mathlib.Core.List.{List, ◌++◌}
-use Prim.Native.Nat.{ℕ, ◌+◌, ◌%◌, ◌≤◌, ◌<◌}
+use Prim.Native.Nat.{ℕ, ◌≤◌, ◌<◌}
 use native.Mathlib.Omega.{arith}
-use lib.Dec.{eqb}
+use lib.Dec.{eqb, ltb}
 use lib.ListN.{length}
-use borrow.Author.Tests.{eqb-true, lt-ltb, le-ltb}
-use Rattle.wire.specs.Be.{be}
+use borrow.Author.Tests.{eqb-true, eqb-false, ltb-false, lt-ltb, le-ltb}
 use Rattle.wire.specs.Over.{Wrote, overwrite}
-use Rattle.wire.proofs.Le.{le-mod}
 use Rattle.wire.proofs.Over.{then}
 use Rattle.packet.specs.Reply.{packet_of, reply_header}
 use Rattle.packet.proofs.Sizes.{length-packet}
-use Rattle.result.specs.declared.Built.TheVariants.{Written, Refused}
-use Rattle.emission.specs.declared.Measure.TheVariants as measure
+use Rattle.std.specs.Prelude.{Ok, Err}
 use Rattle.emission.specs.Emission.{pieces, bytes_in, reply_of}
 use Rattle.emission.specs.Walk.{walked}
-use Rattle.emission.specs.Refusal.{refusal_of}
+use Rattle.script.specs.Verdict.{verdict_of}
+use Rattle.emission.specs.Refusal.{fault_in, refusal_of}
 use Rattle.result.specs.Built.{room_of, built_of, buffer_of}
 use Rattle.emission.proofs.BySets.{by-sets, no-verdict}
 use Rattle.emission.specs.Length.{measure_of}
 use Rattle.wire.proofs.Cases.{by-test}
 
+-- a script that is not refused has a reply that a packet's length field can count
+pub not-long : (s : List ℕ) → refusal_of s ≡ 0 → length (reply_of s) ≤ 65535
+unfolding refusal_of
+not-long s e =
+    by-test (eqb (verdict_of s) 0)
+    (λ t. by-test (eqb (fault_in (pieces s)) 0)
+    (λ u. by-test (ltb 65535 (length (reply_of s))) (λ v. let f : ◌≡◌ {A = ℕ} 17 0 = rw (t, u, v) at e in absurd (omega arith)) (λ v. ltb-false 65535 (length (reply_of s)) v))
+    (λ u. absurd (eqb-false (fault_in (pieces s)) 0 u (rw (t, u) at e))))
+    (λ t. absurd (eqb-false (verdict_of s) 0 t (rw t at e)))
+
 module _ (s : List ℕ) (buf : List ℕ) where
   -- a refused script
-  module _ (f : ℕ) (e : measure_of s ≡ measure.Refused f) where
+  module _ (f : ℕ) (e : measure_of s ≡ Err f) where
     pub is-refused : eqb (refusal_of s) 0 ≡ false
     unfolding measure_of
     is-refused = by-test (eqb (refusal_of s) 0) (λ t. let g = rw t at e in let z : ◌≡◌ {A = ℕ} 0 1 = cc in absurd (omega arith)) (λ t. t)
@@ -34,11 +42,11 @@ module _ (s : List ℕ) (buf : List ℕ) where
     unfolding measure_of
     number_is = let g = rw is-refused at e in cc
 
-    pub room-refused : Refused f ≡ room_of s
-    unfolding room_of
-    room-refused = rw (is-refused, number_is)
+    room-refused : Err f ≡ room_of s
+    unfolding room_of measure_of
+    room-refused = sym e
 
-    pub refused-answer : Refused f ≡ built_of s (length buf)
+    pub refused-answer : Err f ≡ built_of s (length buf)
     unfolding built_of
     refused-answer = rw (← room-refused)
 
@@ -47,7 +55,7 @@ module _ (s : List ℕ) (buf : List ℕ) where
     refused-buffer = rw (← refused-answer)
 
   -- a script of a size
-  module _ (n : ℕ) (e : measure_of s ≡ measure.Size n) where
+  module _ (n : ℕ) (e : measure_of s ≡ Ok n) where
     pub is-accepted : eqb (refusal_of s) 0 ≡ true
     unfolding measure_of
     is-accepted = by-test (eqb (refusal_of s) 0) (λ t. t) (λ t. let g = rw t at e in let z : ◌≡◌ {A = ℕ} 0 1 = cc in absurd (omega arith))
@@ -56,11 +64,15 @@ module _ (s : List ℕ) (buf : List ℕ) where
     unfolding measure_of
     size_is = let g = rw is-accepted at e in cc
 
-    pub room-size : Written n ≡ room_of s
-    unfolding room_of
-    room-size = rw (is-accepted, size_is)
+    room-size : Ok n ≡ room_of s
+    unfolding room_of measure_of
+    room-size = sym e
 
-    pub short-answer : length buf < n → Refused 20 ≡ built_of s (length buf)
+    -- which a packet's length field can count
+    pub fits : n ≤ 65535
+    fits = rw size_is at (not-long s (eqb-true (refusal_of s) 0 is-accepted))
+
+    pub short-answer : length buf < n → Err 20 ≡ built_of s (length buf)
     unfolding built_of
     short-answer h = rw (← room-size, lt-ltb (length buf) n h)
 
@@ -68,23 +80,14 @@ module _ (s : List ℕ) (buf : List ℕ) where
     unfolding buffer_of
     short-buffer h = rw (← short-answer h)
 
-    pub written-answer : n ≤ length buf → Written n ≡ built_of s (length buf)
+    pub written-answer : n ≤ length buf → Ok n ≡ built_of s (length buf)
     unfolding built_of
     written-answer h = rw (← room-size, le-ltb (length buf) n h)
 
-    header_is : reply_header (n % 65536) ≡ reply_header n
-    unfolding reply_header be
-    header_is = rw (le-mod 2 n)
-
-    reply-is : reply_header (n % 65536) ++ bytes_in (pieces s) ≡ reply_of s
+    reply-is : reply_header n ++ bytes_in (pieces s) ≡ reply_of s
     unfolding reply_of packet_of
-    reply-is =
-        let long : n ≡ 8 + length (bytes_in (pieces s)) = sym size_is ∙ length-packet (bytes_in (pieces s)) in
-        header-is' long
-      where
-        header-is' : n ≡ 8 + length (bytes_in (pieces s)) → reply_header (n % 65536) ++ bytes_in (pieces s) ≡ reply_header (8 + length (bytes_in (pieces s))) ++ bytes_in (pieces s)
-        header-is' l = ap (λ (x : List ℕ). x ++ bytes_in (pieces s)) (header_is ∙ ap reply_header l)
+    reply-is = ap (λ (k : ℕ). reply_header k ++ bytes_in (pieces s)) (sym size_is ∙ length-packet (bytes_in (pieces s)))
 
-    pub written-buffer : {m k : List ℕ} {at to : ℕ} → n ≤ length buf → Wrote buf 0 (reply_header (n % 65536)) m at → Wrote m at (bytes_in (walked s)) k to → k ≡ buffer_of s buf
+    pub written-buffer : {m k : List ℕ} {at to : ℕ} → n ≤ length buf → Wrote buf 0 (reply_header n) m at → Wrote m at (bytes_in (walked s)) k to → k ≡ buffer_of s buf
     unfolding buffer_of
     written-buffer h w v = rw (← written-answer h) ((then w (rw (← by-sets s (no-verdict s (eqb-true (refusal_of s) 0 is-accepted))) at v)).0 ∙ ap (overwrite buf 0) reply-is)

@@ -5,34 +5,30 @@ use mathlib.Core.Bool.{true, false}
 use mathlib.Core.List.{List}
 use Prim.Native.Nat.{ℕ, ◌+◌, ◌-◌, ◌*◌, ◌≤◌, ◌<◌}
 use native.Mathlib.Omega.{arith}
-use lib.Dec.{eqb, ltb}
+use lib.Dec.{eqb}
 use lib.ListN.{length}
-use borrow.Author.Tests.{lt-ltb, le-ltb, ltb-false, eqb-true, eqb-false}
+use borrow.Author.Tests.{lt-ltb, le-ltb, eqb-true}
 use Rattle.wire.specs.Over.{Wrote, overwrite}
-use Rattle.wire.proofs.Cases.{by-test}
 use Rattle.packet.specs.Cut.{packets_of}
 use Rattle.packet.specs.Agreed.{is_packet_size, packet_count, packets_length, cut_buffer}
 use Rattle.packet.proofs.Sizes.{length-packet}
 use Rattle.packet.proofs.Counts.{size-bounds, length-packets}
 use Rattle.packet.proofs.Cutting.{cut-written}
-use Rattle.emission.specs.declared.Measure.TheVariants as measure
 use Rattle.emission.specs.Emission.{pieces, bytes_in, reply_of}
 use Rattle.emission.specs.Walk.{walked}
-use Rattle.script.specs.Verdict.{verdict_of}
-use Rattle.emission.specs.Refusal.{fault_in, refusal_of}
+use Rattle.emission.specs.Refusal.{refusal_of}
 use Rattle.emission.specs.Length.{measure_of}
 use Rattle.emission.proofs.BySets.{by-sets, no-verdict}
-use Rattle.result.specs.declared.Built.{Built}
-use Rattle.result.specs.declared.Built.TheVariants.{Written, Refused}
+use Rattle.std.specs.Prelude.{Result, Ok, Err}
 use Rattle.result.specs.Built.{replies_of, room_at, fitted, leaves, built_in_packets, buffer_in_packets}
-use Rattle.result.proofs.Builds.{is-refused, number_is, is-accepted, size_is}
+use Rattle.result.proofs.Builds.{is-refused, number_is, is-accepted, size_is, fits}
 
 -- a payload of n bytes whose packets have total bytes
 module _ (size : ℕ) (p buf : List ℕ) (some : 9 ≤ size) (total n : ℕ) (t : total ≡ packets_length size n) (e : n ≡ length p) where
   long : length (packets_of size p) ≡ total
   long = length-packets size p some ∙ rw (t, e)
 
-  pub short : length buf < total → (Refused 20 ≡ fitted (Written (length (packets_of size p))) (length buf)) × (buf ≡ leaves (fitted (Written (length (packets_of size p))) (length buf)) (packets_of size p) buf)
+  pub short : length buf < total → (Err 20 ≡ fitted (Ok (length (packets_of size p))) (length buf)) × (buf ≡ leaves (fitted (Ok (length (packets_of size p))) (length buf)) (packets_of size p) buf)
   short h = let f = lt-ltb (length buf) total h in (rw (long, f), rw (long, f))
 
   pub above : n ≤ total
@@ -44,7 +40,7 @@ module _ (size : ℕ) (p buf : List ℕ) (some : 9 ≤ size) (total n : ℕ) (t 
   at-is = rw (← e) (omega arith)
 
   pub cut : {k m : List ℕ} {to : ℕ} → total ≤ length buf → Wrote buf (total - n) p k to → m ≡ cut_buffer size n k
-      → (Written total ≡ fitted (Written (length (packets_of size p))) (length buf)) × (m ≡ leaves (fitted (Written (length (packets_of size p))) (length buf)) (packets_of size p) buf)
+      → (Ok total ≡ fitted (Ok (length (packets_of size p))) (length buf)) × (m ≡ leaves (fitted (Ok (length (packets_of size p))) (length buf)) (packets_of size p) buf)
   cut {k} {m} h w b =
       let f = le-ltb (length buf) total h in
       let there : k ≡ overwrite buf (packet_count size (length p) * 8) p = w.0 ∙ ap (λ (i : ℕ). overwrite buf i p) at-is in
@@ -54,38 +50,28 @@ module _ (size : ℕ) (p buf : List ℕ) (some : 9 ≤ size) (total n : ℕ) (t 
 
 -- ---- scripts
 
--- a script that is not refused has a reply that a packet's length field can count
-pub not-long : (s : List ℕ) → refusal_of s ≡ 0 → length (reply_of s) ≤ 65535
-unfolding refusal_of
-not-long s e =
-    by-test (eqb (verdict_of s) 0)
-    (λ t. by-test (eqb (fault_in (pieces s)) 0)
-    (λ u. by-test (ltb 65535 (length (reply_of s))) (λ v. let f : ◌≡◌ {A = ℕ} 17 0 = rw (t, u, v) at e in absurd (omega arith)) (λ v. ltb-false 65535 (length (reply_of s)) v))
-    (λ u. absurd (eqb-false (fault_in (pieces s)) 0 u (rw (t, u) at e))))
-    (λ t. absurd (eqb-false (verdict_of s) 0 t (rw t at e)))
-
 module _ (size : ℕ) (s buf : List ℕ) where
   -- where there is no room, nothing is built
-  none-built : (f : ℕ) → Refused f ≡ room_at size s → (Refused f ≡ built_in_packets size s (length buf)) × (buf ≡ buffer_in_packets size s buf)
+  none-built : (f : ℕ) → Err f ≡ room_at size s → (Err f ≡ built_in_packets size s (length buf)) × (buf ≡ buffer_in_packets size s buf)
   unfolding built_in_packets buffer_in_packets
   none-built f e = (rw (← e), rw (← e))
 
-  pub wrong-room : is_packet_size size ≡ false → Refused 32 ≡ room_at size s
+  pub wrong-room : is_packet_size size ≡ false → Err 32 ≡ room_at size s
   unfolding room_at
   wrong-room h = rw h
 
-  pub wrong_size : is_packet_size size ≡ false → (Refused 32 ≡ built_in_packets size s (length buf)) × (buf ≡ buffer_in_packets size s buf)
+  pub wrong_size : is_packet_size size ≡ false → (Err 32 ≡ built_in_packets size s (length buf)) × (buf ≡ buffer_in_packets size s buf)
   wrong_size h = none-built 32 (wrong-room h)
 
   module _ (ok : is_packet_size size ≡ true) where
-    pub refused-room : (f : ℕ) → measure_of s ≡ measure.Refused f → Refused f ≡ room_at size s
+    pub refused-room : (f : ℕ) → measure_of s ≡ Err f → Err f ≡ room_at size s
     unfolding room_at
     refused-room f e = rw (ok, is-refused s buf f e, number_is s buf f e)
 
-    pub refused : (f : ℕ) → measure_of s ≡ measure.Refused f → (Refused f ≡ built_in_packets size s (length buf)) × (buf ≡ buffer_in_packets size s buf)
+    pub refused : (f : ℕ) → measure_of s ≡ Err f → (Err f ≡ built_in_packets size s (length buf)) × (buf ≡ buffer_in_packets size s buf)
     refused f e = none-built f (refused-room f e)
 
-    module _ (n : ℕ) (e : measure_of s ≡ measure.Size n) where
+    module _ (n : ℕ) (e : measure_of s ≡ Ok n) where
       accepted : eqb (refusal_of s) 0 ≡ true
       accepted = is-accepted s buf n e
 
@@ -97,7 +83,7 @@ module _ (size : ℕ) (s buf : List ℕ) where
       size_of = rw same_bytes (sym (size_is s buf n e) ∙ length-packet (bytes_in (pieces s)))
 
       pub most-size : n ≤ 65535
-      most-size = rw (size_is s buf n e) at (not-long s (eqb-true (refusal_of s) 0 accepted))
+      most-size = fits s buf n e
 
       pub least_size : 8 ≤ n
       least_size = omega (arith, size_of)
@@ -105,14 +91,14 @@ module _ (size : ℕ) (s buf : List ℕ) where
       pub payload-size : n - 8 ≡ length (bytes_in (walked s))
       payload-size = omega (arith, size_of)
 
-      pub sent : {b : Built} {m : List ℕ} → b ≡ fitted (Written (length (packets_of size (bytes_in (walked s))))) (length buf)
-          → m ≡ leaves (fitted (Written (length (packets_of size (bytes_in (walked s))))) (length buf)) (packets_of size (bytes_in (walked s))) buf
+      pub sent : {b : Result ℕ ℕ} {m : List ℕ} → b ≡ fitted (Ok (length (packets_of size (bytes_in (walked s))))) (length buf)
+          → m ≡ leaves (fitted (Ok (length (packets_of size (bytes_in (walked s))))) (length buf)) (packets_of size (bytes_in (walked s))) buf
           → (b ≡ built_in_packets size s (length buf)) × (m ≡ buffer_in_packets size s buf)
       unfolding built_in_packets buffer_in_packets room_at replies_of
       sent a b = (rw (ok, accepted) (rw same_bytes at a), rw (ok, accepted) (rw same_bytes at b))
 
       -- the packets have as many bytes as their length says
-      pub room-sum : {total : ℕ} → total ≡ packets_length size (n - 8) → Written total ≡ room_at size s
+      pub room-sum : {total : ℕ} → total ≡ packets_length size (n - 8) → Ok total ≡ room_at size s
       unfolding room_at replies_of
       room-sum {total} t =
           let sum : length (packets_of size (bytes_in (pieces s))) ≡ total = length-packets size (bytes_in (pieces s)) (omega (arith, size-bounds size ok)) ∙ rw (← same_bytes, ← payload-size) (sym t) in

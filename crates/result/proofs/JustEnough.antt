@@ -11,19 +11,18 @@ use Rattle.packet.specs.Agreed.{is_packet_size}
 use Rattle.emission.specs.Emission.{reply_of}
 use Rattle.emission.specs.Refusal.{refusal_of}
 use Rattle.emission.proofs.Numbers.{refused-by-own}
-use Rattle.result.specs.declared.Built.{Built}
-use Rattle.result.specs.declared.Built.TheVariants.{Written, Refused}
+use Rattle.std.specs.Prelude.{Result, Ok, Err}
 use Rattle.result.specs.Built.{replies_of, room_for, room_of, room_at, fitted, built_of, built_in_packets, own_refusal, Enough, JustEnough}
 
 -- a room whose refusals are those of rooms
-abbrev Own : Built → Type 0
-Own (Written n) = n ≡ n
-Own (Refused f) = own_refusal f ≡ true
+abbrev Own : Result ℕ ℕ → Type 0
+Own (Ok n) = n ≡ n
+Own (Err f) = own_refusal f ≡ true
 
 -- is just enough for what is fitted to it
-enough : (r : Built) → Own r → Enough r (λ m. fitted r m)
-enough (Written n) own = (λ m h. rw (le-ltb m n h), λ m h. rw (lt-ltb m n (omega arith)))
-enough (Refused f) own = (own, λ m. refl)
+enough : (r : Result ℕ ℕ) → Own r → Enough r (λ m. fitted r m)
+enough (Ok n) own = (λ m h. rw (le-ltb m n h), λ m h. rw (lt-ltb m n (omega arith)))
+enough (Err f) own = (own, λ m. refl)
 
 own-for : (s bytes : List ℕ) → Own (room_for s bytes)
 own-for s bytes =

@@ -2,3 +2,4 @@ pub mod Writes
 pub mod Builds
 pub mod InPackets
 pub mod JustEnough
+pub mod Fitted

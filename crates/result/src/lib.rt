@@ -2,8 +2,9 @@
 // in packets of an agreed size (document 02, 2026-02), and the room estimate. The writing pass is the third over the records: it comes after every refusal is ruled out by emission's two.
 #![tactic(auto)]
 
-ghost use Rattle.std.specs.Prelude.{◌≡◌, [], ◌+◌, ◌^◌, ◌≤◌, ◌<◌, length, drop};
+ghost use Rattle.std.specs.Prelude.{◌≡◌, Ok, [], ◌+◌, ◌^◌, ◌≤◌, ◌<◌, length, drop};
 ghost use Rattle.std.proofs.Math.Option.{some};
+ghost use Rattle.refusals.specs.Refused.{numbered};
 ghost use Rattle.wire.specs.Fields.{flat};
 ghost use Rattle.wire.specs.Over.{overwrite, PlaceAfter};
 ghost use Rattle.packet.specs.Cut.{packets_of};
@@ -16,17 +17,10 @@ ghost use Rattle.emission.specs.Runs.{error_found};
 ghost use Rattle.result.specs.Built.{room_of, room_at, fitted, leaves, built_of, buffer_of, built_in_packets, buffer_in_packets};
 ghost use Rattle.result.specs.Inner.{Put};
 
-use emission::{ErrorAt, Measure};
-use refusals::{BUFFER_TOO_SHORT, PACKET_SIZE};
+use refusals::Refusal;
 use script::Found;
-use token::{ColumnValue, KnownColumnValue, KnownDataType};
-
-// What a builder answers: the bytes written, or the refusal's number. Of the room for a reply, the bytes that would be written.
-#[derive(Clone, Copy)]
-pub enum Built {
-    Written(usize),
-    Refused(u8),
-}
+use token::{ColumnValue, Message};
+use wire::Part;
 
 // The status of the DONE that ends a set: its row count is valid (0010), and where a set follows there is more (0001).
 const MORE: u16 = 0x0011;
@@ -51,11 +45,11 @@ fn put_column(buf: &mut [u8], at: usize, p: &[u8]) -> usize
     ensures place_after { PlaceAfter buf.old at (bytes_in (column_piece p.now)) result }
 {
     match token::data_type_of(wire::get_u8(p, 0)) {
-        KnownDataType::Known(t) => {
+        Some(t) => {
             let collation = emission::collation(t, p);
             token::put_column(buf, at, t, collation, script::rest_after(p, 6))
         }
-        KnownDataType::Unknown => at,
+        None => at,
     }
 }
 
@@ -63,25 +57,17 @@ fn put_info(buf: &mut [u8], at: usize, p: &[u8]) -> usize
     ensures buf_after { buf.new ≡ overwrite buf.old at (token_bytes (info_token p.now)) }
     ensures place_after { PlaceAfter buf.old at (token_bytes (info_token p.now)) result }
 {
-    let number = wire::get_u32_le(p, 0);
-    let state = wire::get_u8(p, 4);
-    let severity = wire::get_u8(p, 5);
-    let line = wire::get_u32_le(p, 6);
-    let message = script::info_message(p);
-    let server = script::info_server(p);
-    let procedure = script::info_procedure(p);
-    token::put_message(
-        buf,
-        at,
-        token::INFO,
-        number,
-        state,
-        severity,
-        message,
-        server,
-        procedure,
-        line,
-    )
+    let info = Message {
+        kind: token::INFO,
+        number: wire::get_u32_le(p, 0),
+        state: wire::get_u8(p, 4),
+        class: wire::get_u8(p, 5),
+        text: script::info_message(p),
+        server: script::info_server(p),
+        procedure: script::info_procedure(p),
+        line: wire::get_u32_le(p, 6),
+    };
+    token::put_message(buf, at, &info)
 }
 
 // An error and its DONE.
@@ -89,21 +75,18 @@ fn put_error(buf: &mut [u8], at: usize, p: &[u8], status: u16) -> usize
     ensures buf_after { buf.new ≡ overwrite buf.old at (bytes_in (lead_pieces status (some p.now))) }
     ensures place_after { PlaceAfter buf.old at (bytes_in (lead_pieces status (some p.now))) result }
 {
-    let number = wire::get_u32_le(p, 0);
-    let severity = wire::get_u8(p, 4);
     let none = &p[..0];
-    let next = token::put_message(
-        buf,
-        at,
-        token::ERROR,
-        number,
-        1,
-        severity,
-        script::rest_after(p, 5),
-        none,
-        none,
-        1,
-    );
+    let error = Message {
+        kind: token::ERROR,
+        number: wire::get_u32_le(p, 0),
+        state: 1,
+        class: wire::get_u8(p, 4),
+        text: script::rest_after(p, 5),
+        server: none,
+        procedure: none,
+        line: 1,
+    };
+    let next = token::put_message(buf, at, &error);
     token::put_done(buf, next, status, 0)
 }
 
@@ -239,8 +222,8 @@ fn put_cell(buf: &mut [u8], at: usize, s: &[u8], p: &[u8], next: usize) -> Place
     ensures { Put buf.old at (bytes_in (cell_pieces p.now (ahead 6 (records (drop next s.now))))) buf.new s.now next result }
 {
     match token::column_value_of(wire::get_u8(p, 0)) {
-        KnownColumnValue::Known(value) => put_value(buf, at, s, value, p, next),
-        KnownColumnValue::Unknown => Placed { place: at, next },
+        Some(value) => put_value(buf, at, s, value, p, next),
+        None => Placed { place: at, next },
     }
 }
 
@@ -262,11 +245,7 @@ fn put_turn(
             let a = token::put_done(buf, at, MORE, rows);
             put_set(buf, a, s, p, next)
         }
-        script::INFO => Placed {
-            place: put_info(buf, at, p),
-            next,
-        },
-        script::TRAILING_INFO => Placed {
+        script::INFO | script::TRAILING_INFO => Placed {
             place: put_info(buf, at, p),
             next,
         },
@@ -280,6 +259,7 @@ fn put_turn(
 }
 
 // The rows of a set after a record.
+#[tactic(auto, unfolding(emission::specs::Walk::rows_after))]
 fn rows_after(rows: u64, kind: u16) -> u64
     requires { rows + 1 < 2 ^ 64 }
     ensures { (result ≡ rows_after rows kind) × (result ≤ rows + 1) }
@@ -317,14 +297,14 @@ fn put_records(buf: &mut [u8], at: usize, s: &[u8], from: usize) -> usize
 }
 
 // The error of the first set, where it has one, and its DONE.
-fn put_lead(buf: &mut [u8], at: usize, s: &[u8], error: ErrorAt, status: u16) -> usize
+fn put_lead(buf: &mut [u8], at: usize, s: &[u8], error: Option<Part>, status: u16) -> usize
     requires { at ≤ length buf.old }
     ensures buf_after { buf.new ≡ overwrite buf.old at (bytes_in (lead_pieces status (error_found s.now error))) }
     ensures place_after { PlaceAfter buf.old at (bytes_in (lead_pieces status (error_found s.now error))) result }
 {
     match error {
-        ErrorAt::At(part) => put_error(buf, at, wire::part_of(s, part), status),
-        ErrorAt::Missing => at,
+        Some(part) => put_error(buf, at, wire::part_of(s, part), status),
+        None => at,
     }
 }
 
@@ -335,8 +315,8 @@ fn put_sets(buf: &mut [u8], at: usize, s: &[u8], classification: &[u8], next: us
     ensures place_after { PlaceAfter buf.old at (bytes_in (sets_of classification.now (records (drop next s.now)))) result }
 {
     match emission::error_in(s, next, script::TERMINAL_ERROR) {
-        ErrorAt::At(part) => put_error(buf, at, wire::part_of(s, part), TERMINAL),
-        ErrorAt::Missing => {
+        Some(part) => put_error(buf, at, wire::part_of(s, part), TERMINAL),
+        None => {
             let a = put_lead(
                 buf,
                 at,
@@ -372,40 +352,39 @@ fn put_pieces(buf: &mut [u8], at: usize, s: &[u8]) -> usize
 }
 
 // The reply of a script, as one packet at the buffer's front: `build_query_results` of the Rust.
-pub fn build_query_results(script: &[u8], buf: &mut [u8]) -> Built
-    ensures value { result ≡ built_of script.now (length buf.old) }
+pub fn build_query_results(script: &[u8], buf: &mut [u8]) -> Result<usize, Refusal>
+    ensures value { numbered result ≡ built_of script.now (length buf.old) }
     ensures buf_after { buf.new ≡ buffer_of script.now buf.old }
 {
-    match emission::reply_length(script) {
-        Measure::Refused(number) => Built::Refused(number),
-        Measure::Size(length) => {
-            if buf.len() < length {
-                return Built::Refused(BUFFER_TOO_SHORT);
-            }
-            let at = packet::write_reply_header(buf, (length % 65536) as u16);
-            put_pieces(buf, at, script);
-            Built::Written(length)
-        }
+    let length = emission::reply_length(script)?;
+    if buf.len() < length {
+        return Err(Refusal::BufferTooShort);
     }
+    let at = packet::write_reply_header(buf, length as u16);
+    put_pieces(buf, at, script);
+    Ok(length)
 }
 
 // The narrowings of `build_query_results`: a script that holds no more than each of them takes is what they send.
-pub fn build_query_result(script: &[u8], buf: &mut [u8]) -> Built
-    ensures value { result ≡ built_of script.now (length buf.old) }
+pub fn build_query_result(script: &[u8], buf: &mut [u8]) -> Result<usize, Refusal>
+    ensures value { numbered result ≡ built_of script.now (length buf.old) }
     ensures buf_after { buf.new ≡ buffer_of script.now buf.old }
 {
     build_query_results(script, buf)
 }
 
-pub fn build_query_result_with_trailing_info(script: &[u8], buf: &mut [u8]) -> Built
-    ensures value { result ≡ built_of script.now (length buf.old) }
+pub fn build_query_result_with_trailing_info(
+    script: &[u8],
+    buf: &mut [u8],
+) -> Result<usize, Refusal>
+    ensures value { numbered result ≡ built_of script.now (length buf.old) }
     ensures buf_after { buf.new ≡ buffer_of script.now buf.old }
 {
     build_query_results(script, buf)
 }
 
-pub fn build_query_result_with_extras(script: &[u8], buf: &mut [u8]) -> Built
-    ensures value { result ≡ built_of script.now (length buf.old) }
+pub fn build_query_result_with_extras(script: &[u8], buf: &mut [u8]) -> Result<usize, Refusal>
+    ensures value { numbered result ≡ built_of script.now (length buf.old) }
     ensures buf_after { buf.new ≡ buffer_of script.now buf.old }
 {
     build_query_results(script, buf)
@@ -413,56 +392,52 @@ pub fn build_query_result_with_extras(script: &[u8], buf: &mut [u8]) -> Built
 
 // The payload of n bytes that a script emits, in packets of a size: it is written so that it ends where the packets will end,
 // and is cut where it stands.
-fn put_in_packets(script: &[u8], size: u16, n: u16, buf: &mut [u8]) -> Built
+fn put_in_packets(script: &[u8], size: u16, n: u16, buf: &mut [u8]) -> Result<usize, Refusal>
     requires { (9 ≤ size) × (n ≡ length (bytes_in (walked script.now))) }
-    ensures value { result ≡ fitted (Built.Written (length (packets_of size (bytes_in (walked script.now))))) (length buf.old) }
-    ensures buf_after { buf.new ≡ leaves (fitted (Built.Written (length (packets_of size (bytes_in (walked script.now))))) (length buf.old)) (packets_of size (bytes_in (walked script.now))) buf.old }
+    ensures value { numbered result ≡ fitted (Ok (length (packets_of size (bytes_in (walked script.now))))) (length buf.old) }
+    ensures buf_after { buf.new ≡ leaves (fitted (Ok (length (packets_of size (bytes_in (walked script.now))))) (length buf.old)) (packets_of size (bytes_in (walked script.now))) buf.old }
 {
     let total = packet::packets_length(size, n);
     if buf.len() < total {
-        return Built::Refused(BUFFER_TOO_SHORT);
+        return Err(Refusal::BufferTooShort);
     }
     put_pieces(buf, total - n as usize, script);
     // The packets have room, so that it is cut.
     packet::cut_in_place(buf, size, n);
-    Built::Written(total)
+    Ok(total)
 }
 
 // The reply of a script, in packets of a size at the buffer's front.
-pub fn build_query_results_in_packets(script: &[u8], size: usize, buf: &mut [u8]) -> Built
-    ensures value { result ≡ built_in_packets size script.now (length buf.old) }
+pub fn build_query_results_in_packets(
+    script: &[u8],
+    size: usize,
+    buf: &mut [u8],
+) -> Result<usize, Refusal>
+    ensures value { numbered result ≡ built_in_packets size script.now (length buf.old) }
     ensures buf_after { buf.new ≡ buffer_in_packets size script.now buf.old }
 {
     if !packet::is_packet_size(size) {
-        return Built::Refused(PACKET_SIZE);
+        return Err(Refusal::PacketSize);
     }
-    match emission::reply_length(script) {
-        Measure::Refused(number) => Built::Refused(number),
-        Measure::Size(length) => put_in_packets(script, size as u16, (length - 8) as u16, buf),
-    }
+    let length = emission::reply_length(script)?;
+    put_in_packets(script, size as u16, (length - 8) as u16, buf)
 }
 
 // The room for a script's reply as one packet, exactly its length: what its builder answers where enough is lent.
-pub fn room_estimate(script: &[u8]) -> Built
-    ensures { result ≡ room_of script.now }
+#[tactic(auto, unfolding(crate::specs::Built::room_of, emission::specs::Length::measure_of))]
+pub fn room_estimate(script: &[u8]) -> Result<usize, Refusal>
+    ensures { numbered result ≡ room_of script.now }
 {
-    match emission::reply_length(script) {
-        Measure::Size(length) => Built::Written(length),
-        Measure::Refused(number) => Built::Refused(number),
-    }
+    emission::reply_length(script)
 }
 
 // The room for it in packets of a size, exactly the sum of all packets with their headers.
-pub fn room_in_packets(script: &[u8], size: usize) -> Built
-    ensures { result ≡ room_at size script.now }
+pub fn room_in_packets(script: &[u8], size: usize) -> Result<usize, Refusal>
+    ensures { numbered result ≡ room_at size script.now }
 {
     if !packet::is_packet_size(size) {
-        return Built::Refused(PACKET_SIZE);
+        return Err(Refusal::PacketSize);
     }
-    match emission::reply_length(script) {
-        Measure::Refused(number) => Built::Refused(number),
-        Measure::Size(length) => {
-            Built::Written(packet::packets_length(size as u16, (length - 8) as u16))
-        }
-    }
+    let length = emission::reply_length(script)?;
+    Ok(packet::packets_length(size as u16, (length - 8) as u16))
 }

@@ -14,7 +14,7 @@ use Rattle.emission.specs.Emission.{Piece, token_piece, classification_piece, le
 use Rattle.emission.specs.Walk.{walked, begin_pieces, pieces_of, rows_after, emit_from, error_in, lead_pieces, walked_by}
 use Rattle.emission.proofs.BySets.{by-sets, no-verdict}
 use Rattle.emission.proofs.Sizes.{bytes-none, bytes-told, bytes-classified}
-use Rattle.fit.specs.declared.Fit.TheVariants.{Yes}
+use Rattle.std.specs.Prelude.{Ok, None}
 use Rattle.fit.specs.Misfits.{types_in, fit_of}
 use Rattle.fit.specs.Records.{begin_misfits, misfits_from, misfits_in}
 use Rattle.fit.proofs.Inverts.{set-fits, fits-set, fits-row, fits-other, fits-first, fits-yes}
@@ -84,7 +84,7 @@ bare-script (item k p ∷ rs) e =
     (λ x h. rw h tt)
 
 -- the payload of a script that fits is that of its tokens
-pub payload-is : (s : List ℕ) → fit_of s ≡ Yes → bytes_in (pieces s) ≡ joined (map token_bytes (emitted s))
+pub payload-is : (s : List ℕ) → fit_of s ≡ Ok None → bytes_in (pieces s) ≡ joined (map token_bytes (emitted s))
 unfolding emitted walked
 payload-is s f =
     let y = fits-yes s f in

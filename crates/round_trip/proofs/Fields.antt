@@ -16,11 +16,9 @@ use Rattle.text.specs.Units.{units}
 use Rattle.text.specs.Surrogates.{surrogates, paired, well_formed}
 use Rattle.token.specs.declared.SqlDataType.{SqlDataType}
 use Rattle.token.specs.declared.SqlDataType.TheVariants.{TinyInt}
-use Rattle.token.specs.declared.KnownDataType.{KnownDataType}
-use Rattle.token.specs.declared.KnownDataType.TheVariants.{Known, Unknown}
+use Rattle.std.specs.Prelude.{Option, Some, None}
 use Rattle.token.specs.declared.ColumnValue.{ColumnValue}
 use Rattle.token.specs.declared.ColumnValue.TheVariants.{Null}
-use Rattle.token.specs.declared.KnownColumnValue.{KnownColumnValue}
 use Rattle.token.specs.Types.{data_types, data_type_in, data_type_of, type_code, type_length, collation_size}
 use Rattle.token.specs.Tokens.{EncodedCell, cell, integer, long}
 use Rattle.token.specs.Values.{column_values, column_value_in, column_value_of}
@@ -42,9 +40,9 @@ use Rattle.round_trip.proofs.Accepted.{no_test, short-name, neither, one-text, t
 -- ---- columns
 
 -- the type that a byte stands for; of a byte that stands for none, which no accepted script has, any
-abbrev type_in : KnownDataType → SqlDataType
-type_in (Known t) = t
-type_in Unknown = TinyInt
+abbrev type_in : Option SqlDataType → SqlDataType
+type_in (Some t) = t
+type_in None = TinyInt
 
 abbrev pub type_of : ℕ → SqlDataType
 type_of b = type_in (data_type_of b)
@@ -53,7 +51,7 @@ type_of b = type_in (data_type_of b)
 abbrev pub column_type : ℕ → ColumnType
 column_type t = record { code = type_code (type_of t); limit = type_length (type_of t) }
 
-known-type : (b : ℕ) → 1 ≤ b → b ≤ 8 → data_type_of b ≡ Known (type_of b)
+known-type : (b : ℕ) → 1 ≤ b → b ≤ 8 → data_type_of b ≡ Some (type_of b)
 unfolding data_type_of data_types data_type_in
 known-type b l m =
     by-test (eqb b 1) (λ h. rw (eqb-true b 1 h))
@@ -80,7 +78,7 @@ unfolding column_shaped column_of
 column-there p e =
     let b = le_at 1 p in
     let r = last-of-four (leb 6 (length p)) (even (length p)) (leb 1 b) (leb b 8) e in
-    ap (λ (k : KnownDataType). map token_piece (column_by k p)) (known-type b (leb-true 1 b r.0) (leb-true b 8 r.1))
+    ap (λ (k : Option SqlDataType). map token_piece (column_by k p)) (known-type b (leb-true 1 b r.0) (leb-true b 8 r.1))
 
 collation≤ : (code : ℕ) → collation_size code ≤ 5
 unfolding collation_size
@@ -145,9 +143,9 @@ max-types t l m =
     (λ h2. let e : t ≡ 8 = omega (arith, eqb-false t 6 h1, eqb-false t 7 h2) in rw e refl))
 
 -- the value that a byte stands for; of a byte that stands for none, which no accepted script has, any
-abbrev value_in : KnownColumnValue → ColumnValue
-value_in (KnownColumnValue.Known v) = v
-value_in KnownColumnValue.Unknown = Null
+abbrev value_in : Option ColumnValue → ColumnValue
+value_in (Some v) = v
+value_in None = Null
 
 abbrev value_at : ℕ → ColumnValue
 value_at b = value_in (column_value_of b)
@@ -156,7 +154,7 @@ value_at b = value_in (column_value_of b)
 unfoldable pub cell_in : List ℕ → List (List ℕ) → EncodedCell
 cell_in p cs = value_cell (value_at (le_at 1 p)) (drop 1 p) cs
 
-known-value : (b : ℕ) → 1 ≤ b → b ≤ 10 → column_value_of b ≡ KnownColumnValue.Known (value_at b)
+known-value : (b : ℕ) → 1 ≤ b → b ≤ 10 → column_value_of b ≡ Some (value_at b)
 unfolding column_value_of column_values column_value_in
 known-value b l m =
     by-test (eqb b 1) (λ h. rw (eqb-true b 1 h))
@@ -177,7 +175,7 @@ pub cell-there : (p : List ℕ) (cs : List (List ℕ)) → cell_shaped p ≡ tru
 unfolding cell_of cell_in
 cell-there p cs e =
     let r = value-byte p e in
-    ap (λ (k : KnownColumnValue). map (λ (c : EncodedCell). token_piece (cell c)) (cell_by k (drop 1 p) cs)) (known-value (le_at 1 p) r.0 r.1)
+    ap (λ (k : Option ColumnValue). map (λ (c : EncodedCell). token_piece (cell c)) (cell_by k (drop 1 p) cs)) (known-value (le_at 1 p) r.0 r.1)
 
 number-cell : (x : List ℕ) (cs : List (List ℕ)) (v : ℕ) → 1 ≤ v → v ≤ 4 → value_cell (value_at v) x cs ≡ integer (number_width v) (le_at (number_width v) x)
 unfolding column_value_of column_values column_value_in number_width

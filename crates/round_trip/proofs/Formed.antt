@@ -30,7 +30,7 @@ use Rattle.emission.specs.Refusal.{fault_in, refusal_of}
 use Rattle.token.specs.Names.{long_name, name_fault}
 use Rattle.emission.proofs.BySets.{by-sets}
 use Rattle.emission.proofs.Sizes.{size-told, size-row, size-cat}
-use Rattle.fit.specs.declared.Fit.TheVariants.{Yes}
+use Rattle.std.specs.Prelude.{Ok, None}
 use Rattle.fit.specs.Misfits.{types_in, fit_of}
 use Rattle.fit.specs.Records.{cells_in, begin_misfits, misfits_from, misfits_in}
 use Rattle.fit.proofs.Inverts.{Match, no_cell, match-cell, match-chunk, match-over, match-end, suits, set-fits, row_fits, fits-set, fits-row, fits-other, fits-first, fits-yes}
@@ -316,7 +316,7 @@ not-refused s e =
     let f = no-fault (fault_in (pieces s)) (cond (ltb 65535 (length (reply_of s))) 17 0) v.1 in
     (v.0, f.0, ltb-false 65535 (length (reply_of s)) (no_test (ltb 65535 (length (reply_of s))) 16 f.1))
 
-pub emitted-well-formed : (s : List ℕ) → Bytes s → fit_of s ≡ Yes → WellFormed (emitted s)
+pub emitted-well-formed : (s : List ℕ) → Bytes s → fit_of s ≡ Ok None → WellFormed (emitted s)
 unfolding emitted walked verdict_of reply_of
 emitted-well-formed s b f =
     let y = fits-yes s f in

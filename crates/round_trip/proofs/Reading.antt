@@ -18,8 +18,7 @@ use Rattle.emission.specs.Emission.{Piece, token_piece, classification_piece, co
 use Rattle.wire.specs.Le.{le_at}
 use Rattle.token.specs.Types.{data_type_of}
 use Rattle.token.specs.declared.SqlDataType.{SqlDataType}
-use Rattle.token.specs.declared.KnownDataType.{KnownDataType}
-use Rattle.token.specs.declared.KnownDataType.TheVariants.{Known, Unknown}
+use Rattle.std.specs.Prelude.{Option, Some, None}
 use Rattle.emission.proofs.BySets.{ending, sets-are}
 use Rattle.reader.proofs.WellFormed.{Phase, WF, wf-metadata, wf-column, wf-row, wf-cell, wf-message, wf-done, wf-last}
 use Rattle.reader.proofs.ReadBack.{same}
@@ -55,9 +54,9 @@ module _ {A : Type 0} (f : List (Token Value) → A) where
 
   -- columns and a classification, which is no token
   module _ (h : (t : SqlDataType) (p : List ℕ) (ts : List (Token Value)) → f (states (column_token t p) ∷ ts) ≡ f ts) where
-    past-column : (k : KnownDataType) (p : List ℕ) (qs : List Piece) → f (stated (map token_piece (column_by k p) ++ qs)) ≡ f (stated qs)
-    past-column (Known t) p qs = h t p (stated qs)
-    past-column Unknown p qs = refl
+    past-column : (k : Option SqlDataType) (p : List ℕ) (qs : List Piece) → f (stated (map token_piece (column_by k p) ++ qs)) ≡ f (stated qs)
+    past-column (Some t) p qs = h t p (stated qs)
+    past-column None p qs = refl
 
     past-each : (ps : List (List ℕ)) (qs : List Piece) → f (stated (column_pieces ps ++ qs)) ≡ f (stated qs)
     unfolding flat_map column_of

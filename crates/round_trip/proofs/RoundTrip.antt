@@ -5,13 +5,8 @@ use mathlib.Core.Bool.{Bool, true, false, cond}
 use mathlib.Core.List.{List, [], ◌∷◌, ◌++◌}
 use Prim.Native.Nat.{ℕ, ◌+◌, ◌≤◌, ◌<◌}
 use native.Mathlib.Omega.{arith}
-use lib.Dec.{eqb, ltb}
-use lib.ListN.{length, take, drop}
-use lib.Seq.{take_at}
-use borrow.Author.Tests.{ltb-false, eqb-true}
-use Rattle.wire.proofs.Cases.{by-test, clash}
-use Rattle.wire.specs.Over.{overwrite}
-use Rattle.wire.proofs.Over.{over-eq}
+use lib.ListN.{length}
+use Rattle.wire.proofs.Cases.{clash}
 use Rattle.packet.specs.Agreed.{is_packet_size}
 use Rattle.packet.specs.Cut.{packets_of}
 use Rattle.packet.proofs.Sizes.{length-packet}
@@ -20,8 +15,8 @@ use Rattle.token.specs.Tokens.{metadata}
 use Rattle.script.specs.declared.Stage.TheVariants.{Start}
 use Rattle.script.specs.Records.{Item, item, cut, records}
 use Rattle.script.specs.Verdict.{verdict_from, verdict_of}
-use Rattle.result.specs.declared.Built.{Built}
-use Rattle.result.specs.declared.Built.TheVariants.{Written, Refused}
+use Rattle.std.specs.Prelude.{Result, Ok, Err}
+use Rattle.result.proofs.Fitted.{fitted-is, accepted-by, left-first}
 use Rattle.emission.specs.Emission.{pieces, bytes_in, column_pieces, classification_piece, leading_status, terminal_status, emitted, reply_of}
 use Rattle.emission.specs.Walk.{begin_pieces, emit_from, error_in, lead_pieces, walked_by, walked}
 use Rattle.emission.specs.Refusal.{refusal_of}
@@ -29,7 +24,7 @@ use Rattle.emission.proofs.BySets.{by-sets}
 use Rattle.emission.proofs.Sizes.{size-told, size-cat, size-metadata}
 use Rattle.emission.proofs.Replies.{size-error}
 use Rattle.script.specs.Runs.{ahead}
-use Rattle.result.specs.Built.{replies_of, room_for, room_of, room_at, fitted, built_of, buffer_of, built_in_packets, buffer_in_packets}
+use Rattle.result.specs.Built.{replies_of, room_of, room_at, built_of, buffer_of, built_in_packets, buffer_in_packets}
 use Rattle.payload.specs.Packets.{packets_in}
 use Rattle.payload.proofs.Joined.{Whole, one-packet}
 use Rattle.payload.proofs.Joined as cuts
@@ -42,14 +37,6 @@ use Rattle.round_trip.proofs.Bare.{payload-is}
 
 -- ---- what a builder wrote
 
--- what is written is the room, and there are as many bytes
-fitted-is : (r : Built) (m n : ℕ) → fitted r m ≡ Written n → (r ≡ Written n) × (n ≤ m)
-fitted-is (Written k) m n e =
-    by-test (ltb m k)
-    (λ g. let c : ◌≡◌ (Refused 20) (Written n) = rw g at e in clash (cc))
-    (λ g. let c : ◌≡◌ (Written k) (Written n) = rw g at e in let z : k ≡ n = cc in (c, omega (arith, ltb-false m k g)))
-fitted-is (Refused f) m n e = clash (cc)
-
 -- a script that was not refused, in packets of a size that can be agreed
 pub record Written-as (how : Packing) (s : List ℕ) (m n : ℕ) : Type 0 where
   pub agreed : Agreed how
@@ -57,17 +44,11 @@ pub record Written-as (how : Packing) (s : List ℕ) (m n : ℕ) : Type 0 where
   pub size : length (replies_by how s) ≡ n
   pub room : length (replies_by how s) ≤ m
 
-accepted-by : (s bytes : List ℕ) (n : ℕ) → room_for s bytes ≡ Written n → (refusal_of s ≡ 0) × (length bytes ≡ n)
-accepted-by s bytes n e =
-    by-test (eqb (refusal_of s) 0)
-    (λ h. let c : ◌≡◌ (Written (length bytes)) (Written n) = rw h at e in (eqb-true (refusal_of s) 0 h, cc))
-    (λ h. let c : ◌≡◌ (Refused (refusal_of s)) (Written n) = rw h at e in clash (cc))
-
-agreed-by : (agreed : Bool) (b : Built) (f : ℕ) {n : ℕ} → cond agreed b (Refused f) ≡ Written n → (agreed ≡ true) × (b ≡ Written n)
+agreed-by : (agreed : Bool) (b : Result ℕ ℕ) (f : ℕ) {n : ℕ} → cond agreed b (Err f) ≡ Ok n → (agreed ≡ true) × (b ≡ Ok n)
 agreed-by true b f e = (refl, e)
 agreed-by false b f e = clash (cc)
 
-pub written : (how : Packing) (s : List ℕ) (m n : ℕ) → built_by how s m ≡ Written n → Written-as how s m n
+pub written : (how : Packing) (s : List ℕ) (m n : ℕ) → built_by how s m ≡ Ok n → Written-as how s m n
 unfolding built_of built_in_packets room_of room_at
 written single s m n e =
     let f = fitted-is (room_of s) m n e in
@@ -79,13 +60,7 @@ written (sized size) s m n e =
     let w = accepted-by s (replies_of size s) n a.1 in
     record { agreed = a.0; accepted = w.0; size = w.1; room = omega (arith, w.1, f.1) }
 
--- what it leaves of the lent bytes begins with them
-left-first : (bytes b : List ℕ) (n : ℕ) → length bytes ≡ n → length bytes ≤ length b → take n (overwrite b 0 bytes) ≡ bytes
-left-first bytes b n e h =
-    let room : 0 + length bytes ≤ length b = omega arith in
-    rw (over-eq bytes b 0 room) (take_at bytes (drop (0 + length bytes) b) n e)
-
-pub left_is : (how : Packing) (s b : List ℕ) (n : ℕ) → built_by how s (length b) ≡ Written n → packets_left how s b n ≡ replies_by how s
+pub left_is : (how : Packing) (s b : List ℕ) (n : ℕ) → built_by how s (length b) ≡ Ok n → packets_left how s b n ≡ replies_by how s
 unfolding buffer_of buffer_in_packets
 left_is single s b n e = let w = written single s (length b) n e in rw e (left-first (reply_of s) b n w.size w.room)
 left_is (sized size) s b n e = let w = written (sized size) s (length b) n e in rw e (left-first (replies_of size s) b n w.size w.room)

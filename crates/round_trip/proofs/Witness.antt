@@ -31,7 +31,7 @@ use Rattle.script.specs.Runs.{ahead}
 use Rattle.script.specs.Sets.{every, cells_in, rows_in, up_to_set, sets_in}
 use Rattle.emission.specs.Emission.{column_of, cell_of, set_pieces, sets_pieces, emitted_by, pieces, emitted, bytes_in, reply_of}
 use Rattle.emission.specs.Refusal.{fault_in, refusal_of}
-use Rattle.result.specs.declared.Built.TheVariants.{Written, Refused}
+use Rattle.std.specs.Prelude.{Ok, Err}
 use Rattle.result.specs.Built.{replies_of, room_of, room_at, built_of}
 use Rattle.fit.specs.Misfits.{cell_fits, wrong_cells, wrong_in_row, wrong_columns, types_in}
 use Rattle.fit.specs.Misfits.{rows_misfits, set_misfits, sets_misfits, misfits, fit_of}
@@ -161,9 +161,9 @@ abbrev long_set : List ℕ
 long_set = be 6 0xE9010000_0100 ++ replicate 489 0
 
 scripts-room :
-    (room_of two_sets ≡ Written 67) × (room_at 512 two_sets ≡ Written 67) × (room_at 511 two_sets ≡ Refused 32)
-    × (room_of long_set ≡ Written 513) × (room_at 512 long_set ≡ Written 521) × (room_at 513 long_set ≡ Written 513)
-    × (room_of [] ≡ Refused 12) × (room_at 512 [] ≡ Refused 12) × (room_at 511 [] ≡ Refused 32)
+    (room_of two_sets ≡ Ok 67) × (room_at 512 two_sets ≡ Ok 67) × (room_at 511 two_sets ≡ Err 32)
+    × (room_of long_set ≡ Ok 513) × (room_at 512 long_set ≡ Ok 521) × (room_at 513 long_set ≡ Ok 513)
+    × (room_of [] ≡ Err 12) × (room_at 512 [] ≡ Err 12) × (room_at 511 [] ≡ Err 32)
 unfolding flat_map be le le_at flat units_of units total surrogate_of surrogates paired well_formed
     reply_header packet_of header_bytes part_bytes cut_from packets_of parse records cell_stage stage_after column_shaped number_width cell_shaped shaped texts_of all_well_formed
     fault_of verdict_from verdict_of data_type_of data_types data_type_in length_width collation_size column_value_of column_values column_value_in name_fault ahead every cells_in rows_in up_to_set

@@ -1,13 +1,10 @@
 -- The round trip (document 01, 'What a script emits', 'The reply reader'; document 02, 2026-02): what the reply builder writes for a
 -- script that fits, as one packet or in packets of a size, is what the reply reader reads. Rests on result's builders, fit's check,
 -- payload's packets and reader's run, on their definitions alone.
-use Rattle.std.specs.Prelude.{ℕ, ◌≡◌, List, map, length, take}
+use Rattle.std.specs.Prelude.{Result, Ok, None, ℕ, ◌≡◌, List, map, length, take}
 use Rattle.token.specs.Tokens.{Token, Value, states}
-use Rattle.result.specs.declared.Built.{Built}
-use Rattle.result.specs.declared.Built.TheVariants.{Written}
 use Rattle.emission.specs.Emission.{emitted}
 use Rattle.result.specs.Built.{built_of, buffer_of, built_in_packets, buffer_in_packets}
-use Rattle.fit.specs.declared.Fit.TheVariants.{Yes}
 use Rattle.fit.specs.Misfits.{fit_of}
 use Rattle.payload.specs.Packets.{packets_in, payload_of}
 use Rattle.reader.specs.Positions.{fresh_position}
@@ -21,7 +18,7 @@ pub data Packing : Type 0 where
   sized : (size : ℕ) → Packing
 
 -- what the builder answers for a script s where so many bytes are lent, and what it leaves of the lent bytes b
-abbrev pub built_by : Packing → List ℕ → ℕ → Built
+abbrev pub built_by : Packing → List ℕ → ℕ → Result ℕ ℕ
 built_by single s n = built_of s n
 built_by (sized size) s n = built_in_packets size s n
 
@@ -37,8 +34,8 @@ packets_left how s b n = take n (buffer_by how s b)
 -- not refused accepts its script; the packet is what it writes'.
 pub record Sent (how : Packing) (s b : List ℕ) (n : ℕ) : Type 0 where
   pub bytes : Bytes s
-  pub built : built_by how s (length b) ≡ Written n
-  pub fits : fit_of s ≡ Yes
+  pub built : built_by how s (length b) ≡ Ok n
+  pub fits : fit_of s ≡ Ok None
 
 -- Packets read as some tokens: the nth step hands out the nth token, in every field, and the end from then on. This is one claim
 -- about the whole run, for every k from 0: 'a run starts at the fresh position, just past the header with no column types held; each

@@ -3,14 +3,14 @@ use mathlib.Core.Path.{◌≡◌, sym, ap, ◌∙◌}
 use mathlib.Core.Bool.{not, ◌&&◌}
 use mathlib.Core.List.{List, [], ◌∷◌}
 use Prim.Native.Nat.{ℕ}
+use Rattle.std.specs.Prelude.{Result, Ok, Err}
+use Rattle.refusals.specs.declared.Refusal.{Refusal}
+use Rattle.refusals.specs.Refused.{number, numbered}
 use Rattle.wire.proofs.Cases.{by-test, clash}
 use Rattle.payload.specs.Places.{Place, Read, whole, refused, must, then}
 use Rattle.rpc.specs.declared.Head.{Head}
 use Rattle.rpc.specs.declared.ParameterAt.{ParameterAt}
 use Rattle.rpc.specs.declared.Seen.{Seen}
-use Rattle.rpc.specs.declared.ParametersRead.{ParametersRead}
-use Rattle.rpc.specs.declared.ParametersRead.TheVariants as parameters
-use Rattle.rpc.specs.declared.Rpc.TheVariants as rpc
 use Rattle.rpc.specs.Rpc.{runs_statement, is_empty, Sent, told}
 use Rattle.rpc.specs.Answers.{seen_in, parameters_read, told_of}
 
@@ -23,15 +23,15 @@ unfolding must
 sent-told number h [] to = by-test (runs_statement h.procedure) (λ e. rw e) (λ e. rw (e, e))
 sent-told number h (p ∷ ps) to = by-test (runs_statement h.procedure) (λ e. rw (e, e)) (λ e. rw (e, e))
 
-module _ (number : ℕ) (h : Head) where
-  pub parameters-got : (x : Read (List ParameterAt)) {r : ParametersRead} {seen : Seen} → r ≡ parameters_read number x → r ≡ parameters.Whole seen
-      → told number (then x (sent h)) ≡ told_of h seen
+module _ (asked : ℕ) (h : Head) where
+  pub parameters-got : (x : Read (List ParameterAt)) {r : Result Seen Refusal} {seen : Seen} → numbered r ≡ parameters_read asked x → r ≡ Ok seen
+      → told asked (then x (sent h)) ≡ told_of h seen
   unfolding then
-  parameters-got (whole ps to) {seen = seen} e f = let g : seen ≡ seen_in number ps = cc in sent-told number h ps to ∙ ap (told_of h) (sym g)
-  parameters-got (refused n) e f = clash (cc)
+  parameters-got (whole ps to) {seen = seen} e f = let q = rw f at e in let g : seen ≡ seen_in asked ps = cc in sent-told asked h ps to ∙ ap (told_of h) (sym g)
+  parameters-got (refused n) e f = let q = rw f at e in clash (cc)
 
-  pub parameters-not : (x : Read (List ParameterAt)) {r : ParametersRead} {n : ℕ} → r ≡ parameters_read number x → r ≡ parameters.Refused n
-      → told number (then x (sent h)) ≡ rpc.Refused n
+  pub parameters-not : (x : Read (List ParameterAt)) {r : Result Seen Refusal} {n : Refusal} → numbered r ≡ parameters_read asked x → r ≡ Err n
+      → told asked (then x (sent h)) ≡ Err (number n)
   unfolding then
-  parameters-not (whole ps to) e f = clash (cc)
-  parameters-not (refused m) {n = n} e f = let g : m ≡ n = cc in ap rpc.Refused g
+  parameters-not (whole ps to) e f = let q = rw f at e in clash (cc)
+  parameters-not (refused m) {n = n} e f = let q = rw f at e in let g : m ≡ number n = cc in rw g

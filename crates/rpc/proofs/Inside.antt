@@ -5,12 +5,13 @@ use mathlib.Core.List.{List, [], ◌∷◌}
 use Prim.Native.Nat.{ℕ, zero, suc, ◌+◌, ◌≤◌, ◌<◌}
 use native.Mathlib.Omega.{arith}
 use lib.Dec.{eqb, leb}
+use Rattle.std.specs.Prelude.{None, Result, Ok, Err}
 use lib.ListN.{length, drop}
 use Rattle.wire.specs.Le.{le_at}
 use Rattle.wire.specs.declared.Part.{Part}
 use Rattle.request.specs.Headers.{all_headers}
-use Rattle.request.specs.declared.Headers.{Headers}
-use Rattle.request.specs.declared.Headers.TheVariants.{Length, Short, TooSmall, PastEnd}
+use Rattle.request.specs.declared.HeadersFault.{HeadersFault}
+use Rattle.request.specs.declared.HeadersFault.TheVariants.{Short, TooSmall, PastEnd}
 use Rattle.payload.specs.Places.{body_source, Source, Place, Read, whole, refused}
 use Rattle.payload.proofs.Each.{Each, got, none, each_of, cond-each, must-each, number-each, part-each, then-each}
 use Rattle.cells.specs.declared.Value.{Value}
@@ -22,7 +23,6 @@ use Rattle.rpc.specs.declared.Head.{Head}
 use Rattle.rpc.specs.declared.Metadata.{Metadata}
 use Rattle.rpc.specs.declared.Parameter.{Parameter}
 use Rattle.rpc.specs.declared.ParameterAt.{ParameterAt}
-use Rattle.rpc.specs.declared.Statement.TheVariants as statement
 use Rattle.rpc.specs.Rpc.{renamed, in_head, in_metadata, in_value, procedure_at, head_at, name_at, status_at, metadata_at, value_at, parameter_at, parameters_at, runs_statement, Sent, call_at, call_after, asked_in, bytes_to, first_in, told, rpc_of}
 use Rattle.rpc.specs.Inside.{ProcedureIn, ParameterIn, AskedIn, StatementIn, AnswerIn, PartsInside}
 
@@ -138,11 +138,11 @@ module _ (b : Source) where
       then-each EntriesTo _ _ _ (parameters-in _ a1) (λ ps a2 h2.
       must-each _ _ _ _ (λ e. got (h1, h2))))
 
-  after-in : (h : Headers) → Each SentTo (call_after b h)
-  after-in Short = none
-  after-in TooSmall = none
-  after-in PastEnd = none
-  after-in (Length n) = call-in n
+  after-in : (h : Result ℕ HeadersFault) → Each SentTo (call_after b h)
+  after-in (Err Short) = none
+  after-in (Err TooSmall) = none
+  after-in (Err PastEnd) = none
+  after-in (Ok n) = call-in n
 
   asked_in_lem : (number : ℕ) (ps : List ParameterAt) → Entries ps → AskedIn (length b.bytes) (asked_in number ps)
   unfolding asked_in
@@ -160,7 +160,7 @@ module _ (b : Source) where
   first-in [] h = tt
   first-in (p ∷ ps) ((h, (name, collation, v)), hs) = bytes-in p.parameter.info.limit p.parameter.value p.next h v
 
-  run_in : (runs : Bool) (ps : List ParameterAt) → Entries ps → StatementIn (length b.bytes) (cond runs (first_in ps) statement.Missing)
+  run_in : (runs : Bool) (ps : List ParameterAt) → Entries ps → StatementIn (length b.bytes) (cond runs (first_in ps) None)
   run_in true ps h = first-in ps h
   run_in false ps h = tt
 

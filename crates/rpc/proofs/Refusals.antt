@@ -4,15 +4,15 @@ use mathlib.Core.Bool.{Bool, true, false, cond}
 use mathlib.Core.Logic.{◌⊎◌, inl, inr}
 use Prim.Native.Nat.{ℕ, zero, suc}
 use lib.Dec.{eqb, leb}
+use Rattle.std.specs.Prelude.{Result, Ok, Err}
 use native.Mathlib.Omega.{arith}
 use lib.ListN.{length}
 use Rattle.wire.proofs.Cases.{clash}
 use Rattle.request.specs.Headers.{all_headers}
 use Rattle.request.proofs.TooSmall.{by-headers}
-use Rattle.request.specs.declared.Headers.{Headers}
-use Rattle.request.specs.declared.Headers.TheVariants.{Length, Short, TooSmall, PastEnd}
+use Rattle.request.specs.declared.HeadersFault.{HeadersFault}
+use Rattle.request.specs.declared.HeadersFault.TheVariants.{Short, TooSmall, PastEnd}
 use Rattle.payload.specs.Places.{body_source, Source, Place, Read, whole, refused, must, then}
-use Rattle.rpc.specs.declared.Rpc.TheVariants as rpc
 use Rattle.rpc.specs.Rpc.{renamed, in_metadata, value_at, parameter_at, parameters_at, Sent, call_at, call_after, told, rpc_of}
 use Rattle.rpc.specs.Refusals.{CallNumber, RefusedByOwn, CallTooSmall}
 
@@ -68,15 +68,15 @@ module _ (b : Source) where
       then-own _ _ (parameters-own _ a1) (λ ps a2. must-own _ _ _ (inr (inl refl)) read))
 
 module _ (number m : ℕ) where
-  own_of : (x : Read Sent) → Own x → told number x ≡ rpc.Refused m → CallNumber m
+  own_of : (x : Read Sent) → Own x → told number x ≡ Err m → CallNumber m
   own_of (whole s to) f e = clash (cc)
   own_of (refused n) (Own.number f) e = let g : n ≡ m = cc in rw g at f
 
-  after-own : (b : Source) (h : Headers) → told number (call_after b h) ≡ rpc.Refused m → ((h ≡ TooSmall) × (m ≡ 35)) ⊎ CallNumber m
-  after-own b Short e = inr (own_of (refused 29) (Own.number (inl refl)) e)
-  after-own b TooSmall e = inl (refl, cc)
-  after-own b PastEnd e = inr (own_of (refused 29) (Own.number (inl refl)) e)
-  after-own b (Length n) e = inr (own_of (call_at b n) (call-own b n) e)
+  after-own : (b : Source) (h : Result ℕ HeadersFault) → told number (call_after b h) ≡ Err m → ((h ≡ Err TooSmall) × (m ≡ 35)) ⊎ CallNumber m
+  after-own b (Err Short) e = inr (own_of (refused 29) (Own.number (inl refl)) e)
+  after-own b (Err TooSmall) e = inl (refl, cc)
+  after-own b (Err PastEnd) e = inr (own_of (refused 29) (Own.number (inl refl)) e)
+  after-own b (Ok n) e = inr (own_of (call_at b n) (call-own b n) e)
 
 -- 35 is no number of the call itself
 not-of-call : CallNumber 35 → ⊥
@@ -91,6 +91,6 @@ refused-by-own b asked n e = elim (after-own asked n (body_source b) (all_header
 pub call-too-small : CallTooSmall
 unfolding rpc_of
 call-too-small asked =
-    by-headers (rpc.Refused 35) (λ body h. told asked (call_after (body_source body) h))
+    by-headers (Err 35) (λ body h. told asked (call_after (body_source body) h))
     (λ body k. refl)
     (λ body h e. elim (after-own asked 35 (body_source body) h e) [ inl f ↦ f.0 | inr f ↦ absurd (not-of-call f) ])

@@ -5,6 +5,7 @@ use mathlib.Core.Bool.{Bool, true, false, cond, ◌||◌}
 use mathlib.Core.List.{List, [], ◌∷◌, ◌++◌, append_assoc, append-nil}
 use Prim.Native.Nat.{ℕ, zero, suc, ◌+◌, ◌-◌, ◌≤◌, ◌<◌}
 use native.Mathlib.Omega.{arith}
+use Rattle.std.specs.Prelude.{Some, None, Ok, Err}
 use lib.Dec.{eqb, leb, eqb-zero-suc, eqb-suc-zero, eqb-suc-suc}
 use lib.ListN.{length, length-append}
 use borrow.Author.Tests.{le-leb, lt-leb, leb-false}
@@ -13,10 +14,7 @@ use Rattle.payload.specs.Places.{Source, Place, Read, whole, refused, then}
 use Rattle.payload.proofs.CodeReads.{then-got, then-not, then_same, if-so, if-not}
 use Rattle.rpc.specs.declared.Parameter.{Parameter}
 use Rattle.rpc.specs.declared.ParameterAt.{ParameterAt}
-use Rattle.rpc.specs.declared.Asked.TheVariants as asked
-use Rattle.rpc.specs.declared.Statement.TheVariants as statement
 use Rattle.rpc.specs.declared.Seen.{Seen}
-use Rattle.rpc.specs.declared.ParametersRead.TheVariants as parameters
 use Rattle.rpc.specs.Rpc.{parameter_at, parameters_at, asked_in}
 use Rattle.rpc.specs.Answers.{seen_in, seen_with, parameters_read}
 use Rattle.rpc.proofs.Inside.{parameter-onward}
@@ -86,7 +84,7 @@ module _ (b : Source) where
 -- ---- what is answered of one parameter more
 
 asked-snoc : (number : ℕ) (ps : List ParameterAt) (q : ParameterAt)
-    → asked_in number (ps ++ (q ∷ [])) ≡ cond (eqb (length ps) number) (asked.Found q.parameter) (asked_in number ps)
+    → asked_in number (ps ++ (q ∷ [])) ≡ cond (eqb (length ps) number) (Some q.parameter) (asked_in number ps)
 unfolding asked_in
 asked-snoc zero [] q = refl
 asked-snoc (suc number) [] q = rw (eqb-zero-suc number)
@@ -116,7 +114,7 @@ module _ (b : Source) (start number : ℕ) where
   abbrev turns : ℕ
   turns = suc (length b.bytes)
 
-  pub begins : Walked b start number start 0 (record { asked = asked.Missing; first = statement.Missing })
+  pub begins : Walked b start number start 0 (record { asked = None; first = None })
   unfolding asked_in
   begins = record { passed = []; left = sym (after_none (parameters_at turns b start)); counted = refl; below = omega arith; answers = refl }
 
@@ -140,8 +138,8 @@ module _ (b : Source) (start number : ℕ) where
     passes q l e f = rw (kept (eqb count number) (eqb count 0) seen q f) at (moves q l e)
 
     -- to the end, and to a refusal
-    pub stops : length b.bytes ≤ at → parameters.Whole seen ≡ parameters_read number (parameters_at turns b start)
+    pub stops : length b.bytes ≤ at → Ok seen ≡ parameters_read number (parameters_at turns b start)
     stops l = sym (ap (parameters_read number) (w.left ∙ ap (after w.passed) (ends b at l)) ∙ rw (append-nil, w.answers))
 
-    pub falls : (n : ℕ) → at < length b.bytes → parameter_at b at ≡ refused n → parameters.Refused n ≡ parameters_read number (parameters_at turns b start)
+    pub falls : (n : ℕ) → at < length b.bytes → parameter_at b at ≡ refused n → Err n ≡ parameters_read number (parameters_at turns b start)
     falls n l e = sym (ap (parameters_read number) (w.left ∙ ap (after w.passed) (breaks b at n l e)))

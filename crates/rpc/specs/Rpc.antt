@@ -2,13 +2,13 @@
 -- ParamMetaData and its value), and who causes which refusal (document 02, 2026-01 and 2026-05). Fields are read in their order, so that the
 -- earliest byte at fault decides. Rests on request's headers, payload's places, and cells' types and values.
 -- docs/FORMATS.md, 'Requests that are read', has it in words.
-use Rattle.std.specs.Prelude.{ℕ, zero, suc, ◌-◌, ◌*◌, Bool, true, false, cond, not, ◌&&◌, ◌||◌, List, [], ◌∷◌, eqb, leb, length}
+use Rattle.std.specs.Prelude.{ℕ, zero, suc, ◌-◌, ◌*◌, Bool, true, false, cond, not, ◌&&◌, ◌||◌, List, [], ◌∷◌, eqb, leb, length, Option, Some, None, Result, Ok, Err}
 use Rattle.refusals.specs.Numbers.{cut_short, inner_wrong, call_cut, parameter_cut, parameter_not_read, headers_too_small}
 use Rattle.wire.specs.declared.Part.{Part}
 use Rattle.packet.specs.Status.{has_bit}
 use Rattle.request.specs.Headers.{all_headers}
-use Rattle.request.specs.declared.Headers.{Headers}
-use Rattle.request.specs.declared.Headers.TheVariants.{Length, Short, TooSmall, PastEnd}
+use Rattle.request.specs.declared.HeadersFault.{HeadersFault}
+use Rattle.request.specs.declared.HeadersFault.TheVariants.{Short, TooSmall, PastEnd}
 use Rattle.payload.specs.Places.{Source, body_source, Place, Read, whole, refused, number_at, part_at, must, then, part_to}
 use Rattle.cells.specs.declared.Value.{Value}
 use Rattle.cells.specs.declared.Value.TheVariants as value
@@ -19,12 +19,7 @@ use Rattle.rpc.specs.declared.Head.{Head}
 use Rattle.rpc.specs.declared.Metadata.{Metadata}
 use Rattle.rpc.specs.declared.Parameter.{Parameter}
 use Rattle.rpc.specs.declared.ParameterAt.{ParameterAt}
-use Rattle.rpc.specs.declared.Asked.{Asked}
-use Rattle.rpc.specs.declared.Asked.TheVariants as asked
-use Rattle.rpc.specs.declared.Statement.{Statement}
-use Rattle.rpc.specs.declared.Statement.TheVariants as statement
-use Rattle.rpc.specs.declared.Rpc.{Rpc}
-use Rattle.rpc.specs.declared.Rpc.TheVariants as rpc
+use Rattle.rpc.specs.declared.Call.{Call}
 
 -- what is read, with the refusal's number by another name
 unfoldable pub renamed : {A : Type 0} → (ℕ → ℕ) → Read A → Read A
@@ -132,18 +127,18 @@ call_at src at =
     (whole (record { head = head; parameters = ps }) a2)
 
 -- the call after the headers, which are skipped as in batches; 35 where they cannot be
-abbrev pub call_after : Source → Headers → Read Sent
-call_after src Short = refused call_cut
-call_after src TooSmall = refused headers_too_small
-call_after src PastEnd = refused call_cut
-call_after src (Length n) = call_at src n
+abbrev pub call_after : Source → Result ℕ HeadersFault → Read Sent
+call_after src (Err Short) = refused call_cut
+call_after src (Err TooSmall) = refused headers_too_small
+call_after src (Err PastEnd) = refused call_cut
+call_after src (Ok n) = call_at src n
 
 -- ---- what is answered
 
--- the parameter of a number, from 0
-unfoldable pub asked_in : ℕ → List ParameterAt → Asked
-asked_in number [] = asked.Missing
-asked_in zero (p ∷ ps) = asked.Found p.parameter
+-- the parameter of a number, from 0, if there is one
+unfoldable pub asked_in : ℕ → List ParameterAt → Option Parameter
+asked_in number [] = None
+asked_in zero (p ∷ ps) = Some p.parameter
 asked_in (suc number) (p ∷ ps) = asked_in number ps
 
 -- the bytes of a value that ends at a place: of an integer those of the number, of a text its own, of a Max value from its first chunk
@@ -158,22 +153,22 @@ bytes_to limit value.Null end = part_to end end
 abbrev pub value_bytes : ParameterAt → Part
 value_bytes p = bytes_to p.parameter.info.limit p.parameter.value p.next
 
--- the value bytes of the first parameter
-abbrev pub first_in : List ParameterAt → Statement
-first_in [] = statement.Missing
-first_in (p ∷ ps) = statement.Value (value_bytes p)
+-- the value bytes of the first parameter, if there is one
+abbrev pub first_in : List ParameterAt → Option Part
+first_in [] = None
+first_in (p ∷ ps) = Some (value_bytes p)
 
 -- of a call: its procedure and flags, the parameter of a number, and of a call that runs a statement the statement
-abbrev pub told : ℕ → Read Sent → Rpc
+abbrev pub told : ℕ → Read Sent → Result Call ℕ
 told number (whole call at) =
-    rpc.Call (record {
+    Ok (record {
       procedure = call.head.procedure;
       flags = call.head.flags;
       asked = asked_in number call.parameters;
-      statement = cond (runs_statement call.head.procedure) (first_in call.parameters) statement.Missing;
+      statement = cond (runs_statement call.head.procedure) (first_in call.parameters) None;
     })
-told number (refused n) = rpc.Refused n
+told number (refused n) = Err n
 
 -- what a request answers where the parameter of a number is asked for
-unfoldable pub rpc_of : List ℕ → ℕ → Rpc
+unfoldable pub rpc_of : List ℕ → ℕ → Result Call ℕ
 rpc_of body number = told number (call_after (body_source body) (all_headers body))

@@ -1,7 +1,7 @@
 -- A turn of the verdict over the records, what its answer says, and its numbers. Assumes nothing.
 use mathlib.Core.Path.{◌≡◌, refl, sym, ap, ◌∙◌}
 use mathlib.Core.List.{List, [], ◌∷◌}
-use mathlib.Core.Bool.{Bool, true, false, cond, ◌&&◌}
+use mathlib.Core.Bool.{Bool, true, false, cond}
 use Prim.Native.Nat.{ℕ, ◌+◌, ◌-◌, ◌≤◌}
 use native.Mathlib.Nat.{add-sub_cancel_left}
 use lib.ListN.{take, drop}
@@ -21,13 +21,6 @@ use Rattle.script.specs.Order.{allowed, stage_after}
 use Rattle.script.specs.Shape.{shaped, texts_of}
 use Rattle.script.specs.Verdict.{all_well_formed, fault_of, end_fault, verdict_from, verdict_of, checked_of}
 use Rattle.script.proofs.Walk.{turn, cuts, ends}
-
--- three tests, in one expression and one after another
-pub three : (a b c : Bool) → (a && b && c) ≡ (a && (b && (c && true)))
-three true true true = refl
-three true true false = refl
-three true false c = refl
-three false b c = refl
 
 module _ (s : List ℕ) (at : ℕ) (stage : Stage) where
   pub verdict-cut : record_at s at ≡ Cut → verdict_from stage (records (drop at s)) ≡ 11

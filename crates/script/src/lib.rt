@@ -96,7 +96,7 @@ fn is_allowed(stage: Stage, kind: u16) -> bool
 {
     match stage {
         Stage::Start => kind == SET,
-        Stage::Columns => (kind == COLUMN) | (kind == LEADING_ERROR) | after_leading(kind),
+        Stage::Columns => matches!(kind, COLUMN | LEADING_ERROR) | after_leading(kind),
         Stage::Leading => after_leading(kind),
         Stage::Infos => after_info(kind),
         Stage::Rows => after_cell(kind),
@@ -116,17 +116,18 @@ fn after_leading(kind: u16) -> bool
 fn after_info(kind: u16) -> bool
     ensures { result ≡ allowed stages.Infos kind }
 {
-    (kind == INFO) | (kind == ROW) | (kind == SET) | (kind == TRAILING_INFO)
+    matches!(kind, INFO | ROW | SET | TRAILING_INFO)
 }
 
 // Whether a kind may follow a row or a cell without chunks.
 fn after_cell(kind: u16) -> bool
     ensures { result ≡ allowed stages.Rows kind }
 {
-    (kind == CELL) | (kind == ROW) | (kind == SET) | (kind == TRAILING_INFO)
+    matches!(kind, CELL | ROW | SET | TRAILING_INFO)
 }
 
 // The stage after a cell of a value.
+#[tactic(auto, unfolding(crate::specs::Order::cell_stage))]
 fn cell_stage(value: u8) -> Stage
     ensures { result ≡ cell_stage value }
 {
@@ -139,6 +140,7 @@ fn cell_stage(value: u8) -> Stage
 }
 
 // The stage after a record that may stand at a stage.
+#[tactic(auto, unfolding(crate::specs::Order::cell_stage, crate::specs::Order::stage_after))]
 fn stage_after(stage: Stage, kind: u16, payload: &[u8]) -> Stage
     ensures { result ≡ stage_after stage kind payload.now }
 {
@@ -154,6 +156,7 @@ fn stage_after(stage: Stage, kind: u16, payload: &[u8]) -> Stage
 }
 
 // A column's payload: type byte, collation, name.
+#[tactic(auto, unfolding(crate::specs::Shape::column_shaped))]
 fn column_shaped(p: &[u8]) -> bool
     ensures { result ≡ column_shaped p.now }
 {
@@ -162,6 +165,7 @@ fn column_shaped(p: &[u8]) -> bool
 }
 
 // An info's payload: number, state, severity, line, three counts of units, three texts.
+#[tactic(auto, unfolding(crate::specs::Shape::info_shaped))]
 fn info_shaped(p: &[u8]) -> bool
     ensures { result ≡ info_shaped p.now }
 {
@@ -172,6 +176,7 @@ fn info_shaped(p: &[u8]) -> bool
 }
 
 // A cell's payload: value byte, then its number or text.
+#[tactic(auto, unfolding(crate::specs::Shape::cell_shaped, crate::specs::Shape::number_width))]
 fn cell_shaped(p: &[u8]) -> bool
     ensures { result ≡ cell_shaped p.now }
 {
@@ -187,6 +192,7 @@ fn cell_shaped(p: &[u8]) -> bool
 }
 
 // A chunk's payload, which under a cell of value 6 holds whole units.
+#[tactic(auto, unfolding(crate::specs::Shape::chunk_shaped))]
 fn chunk_shaped(stage: Stage, p: &[u8]) -> bool
     ensures { result ≡ chunk_shaped stage p.now }
 {
@@ -197,6 +203,7 @@ fn chunk_shaped(stage: Stage, p: &[u8]) -> bool
 }
 
 // An error's payload: number, severity, text.
+#[tactic(auto, unfolding(crate::specs::Shape::error_shaped))]
 fn error_shaped(p: &[u8]) -> bool
     ensures { result ≡ error_shaped p.now }
 {
@@ -205,6 +212,7 @@ fn error_shaped(p: &[u8]) -> bool
 
 // Whether a payload has the shape of its kind, which may stand at a stage. Arms that say the same stand apart here and
 // below: joined, they make rows dearer.
+#[tactic(auto, unfolding(crate::specs::Shape::shaped))]
 fn is_shaped(stage: Stage, kind: u16, p: &[u8]) -> bool
     ensures { result ≡ shaped stage kind p.now }
 {
@@ -221,6 +229,7 @@ fn is_shaped(stage: Stage, kind: u16, p: &[u8]) -> bool
 }
 
 // Whether the three texts of an info are UTF-16.
+#[tactic(auto, unfolding(crate::specs::Verdict::all_well_formed))]
 fn info_texts_ok(p: &[u8]) -> bool
     ensures { result ≡ all_well_formed (message_text p.now ∷ server_name p.now ∷ procedure_name p.now ∷ []) }
 {
@@ -258,13 +267,11 @@ pub fn info_procedure(p: &[u8]) -> &[u8]
 pub fn rest_after(p: &[u8], n: usize) -> &[u8]
     ensures { result.now ≡ drop n p.now }
 {
-    if p.len() < n {
-        return &p[..0];
-    }
-    &p[n..]
+    &p[n.min(p.len())..]
 }
 
 // Whether the text after the first n bytes of a payload is UTF-16.
+#[tactic(auto, unfolding(crate::specs::Verdict::all_well_formed))]
 fn text_ok(p: &[u8], n: usize) -> bool
     ensures { result ≡ all_well_formed (drop n p.now ∷ []) }
 {
@@ -272,6 +279,7 @@ fn text_ok(p: &[u8], n: usize) -> bool
 }
 
 // Whether the text of a cell, where it has one, is UTF-16.
+#[tactic(auto, unfolding(crate::specs::Verdict::all_well_formed))]
 fn cell_text_ok(p: &[u8]) -> bool
     ensures { result ≡ all_well_formed (cond (eqb (le_at 1 p.now) 5) (drop 1 p.now ∷ []) []) }
 {
@@ -282,6 +290,7 @@ fn cell_text_ok(p: &[u8]) -> bool
 }
 
 // Whether the texts of a payload are UTF-16.
+#[tactic(auto, unfolding(crate::specs::Shape::texts_of, crate::specs::Verdict::all_well_formed))]
 fn texts_ok(kind: u16, p: &[u8]) -> bool
     ensures { result ≡ all_well_formed (texts_of kind p.now) }
 {
@@ -308,6 +317,7 @@ fn fault(stage: Stage, kind: u16, p: &[u8]) -> Result<(), Refusal>
 }
 
 // The same of a row, of a cell, and of a record of any kind.
+#[tactic(auto, unfolding(crate::specs::Verdict::fault_of, crate::specs::Shape::shaped, crate::specs::Shape::texts_of, crate::specs::Verdict::all_well_formed))]
 fn row_fault(stage: Stage, p: &[u8]) -> Result<(), Refusal>
     ensures { refused_by result ≡ fault_of stage 4 p.now }
 {
@@ -321,6 +331,7 @@ fn row_fault(stage: Stage, p: &[u8]) -> Result<(), Refusal>
     }
 }
 
+#[tactic(auto, unfolding(crate::specs::Verdict::fault_of, crate::specs::Shape::shaped, crate::specs::Shape::texts_of))]
 fn cell_fault(stage: Stage, p: &[u8]) -> Result<(), Refusal>
     ensures { refused_by result ≡ fault_of stage 5 p.now }
 {
@@ -336,6 +347,7 @@ fn cell_fault(stage: Stage, p: &[u8]) -> Result<(), Refusal>
     Ok(())
 }
 
+#[tactic(auto, unfolding(crate::specs::Verdict::fault_of))]
 fn other_fault(stage: Stage, kind: u16, p: &[u8]) -> Result<(), Refusal>
     ensures { refused_by result ≡ fault_of stage kind p.now }
 {

@@ -10,17 +10,16 @@ use borrow.Author.Tests.{lt-ltb, le-ltb}
 use Rattle.wire.proofs.Cases.{split, by-test}
 use Rattle.script.specs.Records.{records}
 use Rattle.capture_marks.specs.Marks.{capture_fault, marks_of, counted_of, marks_in, slots_after}
-use Rattle.capture_marks.specs.declared.Marked.{Marked}
-use Rattle.capture_marks.specs.declared.Marked.TheVariants.{Count, Refused}
+use Rattle.std.specs.Prelude.{Result, Ok, Err}
 use Rattle.capture_marks.proofs.Enough.{ten-bytes-each}
 use Rattle.station.specs.Answer.{answers, refuses, lent, answer_of}
 use Rattle.station.specs.Requests.{capture_call, TenthEnough}
 use Rattle.station.proofs.Ends.{ByCallee, lent-enough, lent-few, lent_any}
 
 -- what an answer of `marks` says of the lent slots and of what is left in them
-abbrev Said : (s out left : List ℕ) → Marked → Type 0
-Said s out left (Count n) = (n ≤ length out) × ByCallee (capture_call s) out left (answers n (marks_of s))
-Said s out left (Refused n) = ByCallee (capture_call s) out left (refuses n)
+abbrev Said : (s out left : List ℕ) → Result ℕ ℕ → Type 0
+Said s out left (Ok n) = (n ≤ length out) × ByCallee (capture_call s) out left (answers n (marks_of s))
+Said s out left (Err n) = ByCallee (capture_call s) out left (refuses n)
 
 said : (s out : List ℕ) → Said s out (slots_after s out) (marks_in s (length out))
 unfolding marks_in counted_of slots_after capture_call
@@ -34,7 +33,7 @@ said s out =
     (λ e. rw e (rw e (lent_any (capture_fault (records s)) out)))
 
 -- the same of what it answered and left
-pub marked : (s out : List ℕ) {m : Marked} {left : List ℕ} → marks_in s (length out) ≡ m → left ≡ slots_after s out → Said s out left m
+pub marked : (s out : List ℕ) {m : Result ℕ ℕ} {left : List ℕ} → marks_in s (length out) ≡ m → left ≡ slots_after s out → Said s out left m
 marked s out e w = rw (sym e, w) (said s out)
 
 pub tenth-enough : TenthEnough

@@ -2,6 +2,7 @@
 use Prim.Native.Nat.{ℕ, zero, suc, ◌+◌, ◌*◌, ◌≤◌}
 use mathlib.Core.Path.{◌≡◌, refl, sym, ap, ◌∙◌}
 use mathlib.Core.List.{List}
+use Rattle.std.specs.Prelude.{Some, None, Ok, Err}
 use native.Mathlib.Omega.{arith}
 use lib.Dec.{eqb}
 use lib.IntN.{pos}
@@ -12,7 +13,7 @@ use Rattle.wire.proofs.Cases.{split, by-test, clash}
 use Rattle.text.specs.Units.{units_of}
 use Rattle.cells.specs.Values.{chunk_bytes, joined_from}
 use Rattle.windows1252.specs.Table.{bytes_of}
-use Rattle.windows1252.specs.Labels.{Reading, text, null, not_read, chunks_joined, read_of, Writing, value, not_written, value_bytes, written_of}
+use Rattle.windows1252.specs.Labels.{Reading, chunks_joined, read_of, Writing, value_bytes, written_of}
 use Rattle.windows1252.specs.Code.{value_size}
 use Rattle.windows1252.proofs.Texts.{length-text, length-bytes}
 use Rattle.windows1252.proofs.CodeReads.{read-text}
@@ -36,7 +37,7 @@ chunks-short (suc turns) l =
     (omega (arith, whole, length-drop 4 l, chunks-short turns (drop n rest))))
 
 -- a text has two bytes for each of them
-module _ (v : List ℕ) {t : List ℕ} (e : read_of v ≡ text t) where
+module _ (v : List ℕ) {t : List ℕ} (e : read_of v ≡ Ok (Some t)) where
   text-long : length t ≡ 2 * length (chunks_joined v)
   text-long = ap length (read-text v e).0 ∙ length-text (chunks_joined v)
 
@@ -50,7 +51,7 @@ module _ (v : List ℕ) {t : List ℕ} (e : read_of v ≡ text t) where
 size-most : (n : ℕ) → n ≤ 65535 → value_size n ≤ 65551
 size-most n h = by-test (eqb n 0) (λ t. rw t (omega arith)) (λ t. rw t (omega arith))
 
-value-most : (t : List ℕ) {v : List ℕ} → written_of t ≡ value v → length v ≤ 65551
+value-most : (t : List ℕ) {v : List ℕ} → written_of t ≡ Ok v → length v ≤ 65551
 value-most t {v} e =
     let ok = accepted t (rw e) in
     let bs = bytes_of (units_of t) in
@@ -59,17 +60,17 @@ value-most t {v} e =
 
 -- ---- enough
 
-read-enough : (x : Reading) (buf : List ℕ) → ((t : List ℕ) → x ≡ text t → length t ≤ length buf) → answer_of (read_outcome x) buf ≡ number_of (read_outcome x)
+read-enough : (x : Reading) (buf : List ℕ) → ((t : List ℕ) → x ≡ Ok (Some t) → length t ≤ length buf) → answer_of (read_outcome x) buf ≡ number_of (read_outcome x)
 unfolding answer_of lent
-read-enough (text t) buf h = rw (le-ltb (length buf) (length t) (h t refl))
-read-enough null buf h = rw (le-ltb (length buf) 0 (omega arith))
-read-enough (not_read n) buf h = refl
+read-enough (Ok (Some t)) buf h = rw (le-ltb (length buf) (length t) (h t refl))
+read-enough (Ok None) buf h = rw (le-ltb (length buf) 0 (omega arith))
+read-enough (Err n) buf h = refl
 
-write-enough : (x : Writing) (buf : List ℕ) → ((v : List ℕ) → x ≡ value v → length v ≤ length buf)
+write-enough : (x : Writing) (buf : List ℕ) → ((v : List ℕ) → x ≡ Ok v → length v ≤ length buf)
     → answer_of (written_outcome x) buf ≡ number_of (written_outcome x)
 unfolding answer_of lent
-write-enough (value v) buf h = rw (le-ltb (length buf) (length v) (h v refl))
-write-enough (not_written n) buf h = refl
+write-enough (Ok v) buf h = rw (le-ltb (length buf) (length v) (h v refl))
+write-enough (Err n) buf h = refl
 
 pub labels-enough : LabelsEnough
 unfolding read_label_call write_label_call
@@ -81,15 +82,15 @@ labels-enough = (
 
 -- ---- null
 
-null-by : (x : Reading) (buf : List ℕ) → ((t : List ℕ) → x ≡ text t → length t ≤ 131070) → answer_of (read_outcome x) buf ≡ pos null_label → x ≡ null
+null-by : (x : Reading) (buf : List ℕ) → ((t : List ℕ) → x ≡ Ok (Some t) → length t ≤ 131070) → answer_of (read_outcome x) buf ≡ pos null_label → x ≡ Ok None
 unfolding answer_of lent number_of
-null-by (text t) buf h e =
+null-by (Ok (Some t)) buf h e =
     split (length t) (length buf)
     (λ g. let q = rw (le-ltb (length buf) (length t) g) at e in let long : length t ≡ null_label = cc in absurd (omega (arith, long, h t refl)))
     (λ g. let q = rw (lt-ltb (length buf) (length t) g) at e in clash (cc))
-null-by null buf h e = refl
-null-by (not_read zero) buf h e = let q : zero ≡ null_label = cc in absurd (omega (arith, q))
-null-by (not_read (suc n)) buf h e = clash (cc)
+null-by (Ok None) buf h e = refl
+null-by (Err zero) buf h e = let q : zero ≡ null_label = cc in absurd (omega (arith, q))
+null-by (Err (suc n)) buf h e = clash (cc)
 
 pub null-alone : NullAlone
 unfolding read_label_call

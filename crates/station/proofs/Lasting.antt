@@ -1,4 +1,5 @@
 -- The slots of a position stand for the reader's position from call to call, and a run of calls is the reader's run. Assumes nothing.
+use Rattle.std.specs.Prelude.{Some, None, Ok, Err}
 use Prim.Native.Nat.{ℕ, zero, suc, ◌+◌, ◌-◌, ◌*◌, ◌≤◌, ◌<◌, ◌/◌}
 use mathlib.Core.Path.{◌≡◌, refl, sym, ap, ◌∙◌}
 use mathlib.Core.Bool.{Bool, true, false, cond}
@@ -15,14 +16,12 @@ use Rattle.wire.proofs.Over.{length_over, over-eq}
 use Rattle.cells.specs.Cells.{is_type}
 use Rattle.cells.proofs.Types.{type-cases}
 use Rattle.payload.specs.Positions.{Corner}
-use Rattle.reader.specs.declared.Answer.{Answer}
-use Rattle.reader.specs.declared.Answer.TheVariants as answer
 use Rattle.reader.specs.declared.Position.{Position}
 use Rattle.reader.specs.declared.Spot.{Spot}
 use Rattle.reader.specs.declared.Token.{Token}
 use Rattle.reader.specs.declared.Token.TheVariants.{ColMetadata, Column, Row, Cell, Done, Message}
 use Rattle.reader.specs.Positions.{fresh_position, after}
-use Rattle.reader.specs.Reader.{step_of, run_of, answer_of as nth_answer}
+use Rattle.reader.specs.Reader.{Answer, step_of, run_of, answer_of as nth_answer}
 use Rattle.station.specs.Answer.{number_of, lent, filled, answer_of, slots_of}
 use Rattle.reader.specs.Spots.{spot_of}
 use Rattle.station.specs.Steps.{code_of, length_of, type_slot, first_of, place_of, position_of, fresh_slots, fresh_call, token_slots, step_outcome, step_call, spot_slots, with_type, slots_after, position_left}
@@ -178,10 +177,10 @@ module _ (packet position out : List ℕ) (k : 134 ≤ length position) (l : 11 
   by_answer : (a : Answer) (next : Position) → (step_of packet p).answer ≡ a → Following p a next
       → position_of (slots_after (p.count - p.columns_left) a (spot_of next) position out) ≡ next
   unfolding slots_after
-  by_answer (answer.Token t) next e f =
+  by_answer (Ok (Some t)) next e f =
       simp (le-ltb _ _ k, le-ltb _ _ l) (rw f.1.0 (at-token position t f.0 k (few packet p e) f.1.1))
-  by_answer answer.End next e f = sym f
-  by_answer (answer.Refused n) next e f = sym f
+  by_answer (Ok None) next e f = sym f
+  by_answer (Err n) next e f = sym f
 
   pub left-stands : position_of (position_left packet position out) ≡ (step_of packet p).next
   unfolding position_left
@@ -189,9 +188,9 @@ module _ (packet position out : List ℕ) (k : 134 ≤ length position) (l : 11 
 
   answer-length : (n : ℕ) (a : Answer) (next : Spot) → length (slots_after n a next position out) ≡ length position
   unfolding slots_after
-  answer-length n (answer.Token t) next = simp (le-ltb _ _ k, le-ltb _ _ l) (token-length position n t next)
-  answer-length n answer.End next = refl
-  answer-length n (answer.Refused r) next = refl
+  answer-length n (Ok (Some t)) next = simp (le-ltb _ _ k, le-ltb _ _ l) (token-length position n t next)
+  answer-length n (Ok None) next = refl
+  answer-length n (Err r) next = refl
 
   pub left-length : length (position_left packet position out) ≡ length position
   unfolding position_left
@@ -210,9 +209,9 @@ runs (suc n) packet position outs k l =
     (h.0 ∙ ap (run_of n packet) (left-stands packet position (outs 0) k (l 0)), h.1 ∙ e)
 
 room-enough : (a : Answer) (room : ℕ) → 134 ≤ room → step_outcome room a ≡ step_outcome 134 a
-room-enough (answer.Token t) room h = rw (le-ltb room 134 h) refl
-room-enough answer.End room h = refl
-room-enough (answer.Refused n) room h = refl
+room-enough (Ok (Some t)) room h = rw (le-ltb room 134 h) refl
+room-enough (Ok None) room h = refl
+room-enough (Err n) room h = refl
 
 pub run-stands : RunStands
 unfolding step_call nth_answer
@@ -234,7 +233,7 @@ not-one (suc n) e = pos-ne-negsuc 1 n (sym e)
 -- was lent enough slots
 room_of_lem : (a : Answer) (room : ℕ) (out : List ℕ) → answer_of (step_outcome room a) out ≡ pos 1 → (134 ≤ room) × (11 ≤ length out)
 unfolding answer_of lent number_of
-room_of_lem (answer.Token t) room out e =
+room_of_lem (Ok (Some t)) room out e =
     elim (dec_le 134 room) [
       | yes k ↦ elim (dec_le 11 (length out)) [
         | yes l ↦ (k, l)
@@ -243,8 +242,8 @@ room_of_lem (answer.Token t) room out e =
       ]
       | no k ↦ absurd (not-one 20 (rw (lt-ltb room 134 (lt_of_not-le k)) at e))
     ]
-room_of_lem answer.End room out e = let z : ◌≡◌ {A = ℕ} 0 1 = ap nat_abs (rw (le-ltb (length out) 0 (omega arith)) at e) in absurd (omega (arith, z))
-room_of_lem (answer.Refused n) room out e = absurd (not-one n e)
+room_of_lem (Ok None) room out e = let z : ◌≡◌ {A = ℕ} 0 1 = ap nat_abs (rw (le-ltb (length out) 0 (omega arith)) at e) in absurd (omega (arith, z))
+room_of_lem (Err n) room out e = absurd (not-one n e)
 
 pub next-stands : NextStands
 unfolding step_call

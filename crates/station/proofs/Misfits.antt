@@ -10,8 +10,7 @@ use borrow.Author.Tests.{le-ltb}
 use Rattle.wire.specs.Over.{overwrite}
 use Rattle.wire.proofs.Cases.{by-test, clash}
 use Rattle.fit.specs.declared.Misfit.{Misfit}
-use Rattle.fit.specs.declared.Fit.{Fit}
-use Rattle.fit.specs.declared.Fit.TheVariants.{Yes, No, Refused}
+use Rattle.std.specs.Prelude.{Option, Some, None, Result, Ok, Err}
 use Rattle.fit.specs.Misfits.{fit_of}
 use Rattle.fit.specs.First.{IsFirst}
 use Rattle.fit.proofs.First.{first-misfit}
@@ -23,12 +22,12 @@ never-one zero e = clash (cc)
 never-one (suc n) e = clash (cc)
 
 module _ (s out : List ℕ) where
-  told : (f : Fit) → fit_of s ≡ f → answer_of (fit_outcome f) out ≡ pos 1
+  told : (f : Result (Option Misfit) ℕ) → fit_of s ≡ f → answer_of (fit_outcome f) out ≡ pos 1
       → (m : Misfit) × IsFirst s m × (slots_of (fit_outcome f) out ≡ overwrite out 0 (misfit_slots m))
   unfolding answer_of slots_of lent filled number_of
-  told Yes q e = let c = rw (le-ltb (length out) 0 (omega arith)) at e in clash (cc)
-  told (Refused n) q e = absurd (never-one n e)
-  told (No m) q e =
+  told (Ok None) q e = let c = rw (le-ltb (length out) 0 (omega arith)) at e in clash (cc)
+  told (Err n) q e = absurd (never-one n e)
+  told (Ok (Some m)) q e =
       by-test (ltb (length out) (length (misfit_slots m)))
       (λ t. absurd (never-one 20 (rw t at e)))
       (λ t. (m, first-misfit s m q, rw t))

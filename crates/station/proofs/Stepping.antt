@@ -1,4 +1,5 @@
 -- How the reply reader's step ends for C: the answer, the position's slots and out, for each way. Assumes nothing.
+use Rattle.std.specs.Prelude.{Some, None, Ok, Err}
 use Prim.Native.Nat.{ℕ, zero, suc, ◌+◌, ◌-◌, ◌%◌, ◌^◌, ◌≤◌, ◌<◌}
 use mathlib.Core.Path.{◌≡◌, refl, sym, ap, ◌∙◌}
 use mathlib.Core.Bool.{Bool, true, false, true≢false, cond}
@@ -20,20 +21,15 @@ use Rattle.payload.specs.Packets.{packets_in}
 use Rattle.payload.specs.Positions as positions
 use Rattle.payload.specs.Positions.{Placed, place_in}
 use Rattle.cells.specs.declared.Value.TheVariants as value
-use Rattle.reader.specs.declared.Answer.{Answer}
-use Rattle.reader.specs.declared.Answer.TheVariants as answer
-use Rattle.reader.specs.declared.Got.{Got}
-use Rattle.reader.specs.declared.Got.TheVariants as got
 use Rattle.reader.specs.declared.HeldTypes.{HeldTypes}
 use Rattle.reader.specs.declared.Position.{Position}
 use Rattle.reader.specs.declared.Spot.{Spot}
-use Rattle.reader.specs.declared.Step.{Step}
 use Rattle.reader.specs.declared.Token.{Token}
 use Rattle.reader.specs.declared.Token.TheVariants.{ColMetadata, Column, Row, Cell, Done, Message}
 use Rattle.cells.specs.Cells.{is_type}
 use Rattle.reader.specs.Positions.{held, stands, after}
-use Rattle.reader.specs.Reader.{step_from, step_of}
-use Rattle.reader.specs.Spots.{spot_of, held_in, spot_after, step_by, got_of}
+use Rattle.reader.specs.Reader.{Answer, StepOf, step_from, step_of}
+use Rattle.reader.specs.Spots.{Found, spot_of, held_in, spot_after, step_by, got_of}
 use Rattle.reader.proofs.CodeSteps.{stepped}
 use Rattle.reader.proofs.CodeSpots.{after-spot}
 use Rattle.reader.proofs.CodePositions.{held_next, held-each, held-past, standing}
@@ -121,9 +117,9 @@ held-slots slots {j} {slot} p q e r s c =
 -- ---- a step that answers a token
 
 abbrev tokens : Answer → ℕ
-tokens (answer.Token t) = 1
-tokens answer.End = 0
-tokens (answer.Refused n) = 0
+tokens (Ok (Some t)) = 1
+tokens (Ok None) = 0
+tokens (Err n) = 0
 
 -- from a position that is refused none
 none : (p : List ℕ) (pos : Position) (at : Placed) → stands pos ≡ false → tokens (step_from (packets_in p) pos at).answer ≡ 0
@@ -131,7 +127,7 @@ none p pos (positions.refused n) s = refl
 none p pos (positions.at n) s = rw s refl
 
 -- the set has at most 128 columns
-pub few : (p : List ℕ) (pos : Position) {t : Token} → (step_of p pos).answer ≡ answer.Token t → pos.count ≤ 128
+pub few : (p : List ℕ) (pos : Position) {t : Token} → (step_of p pos).answer ≡ Ok (Some t) → pos.count ≤ 128
 unfolding step_of
 few p pos e =
     by-test (stands pos) (λ s. (standing pos s).few)
@@ -159,13 +155,13 @@ module _ (position out : List ℕ) where
 
   module _ (n : ℕ) (t : Token) (next : Spot) {r : ℤ} where
     -- too few slots for the position
-    pub no-position : length position < 134 → mag r < 2 ^ 63 → r ≡ number_of (refuses 20) → Left n (answer.Token t) next position out (to_z w64 (of_z w64 r))
+    pub no-position : length position < 134 → mag r < 2 ^ 63 → r ≡ number_of (refuses 20) → Left n (Ok (Some t)) next position out (to_z w64 (of_z w64 r))
     unfolding slots_after
     no-position h fits e = let s = stopped {p = refuses 20} out fits e refl in simp (lt-ltb _ _ h) (s.0, (refl, s.1))
 
     -- too few slots of out
     pub no-out : 134 ≤ length position → length out < 11 → mag r < 2 ^ 63 → r ≡ number_of (refuses 20)
-        → Left n (answer.Token t) next position out (to_z w64 (of_z w64 r))
+        → Left n (Ok (Some t)) next position out (to_z w64 (of_z w64 r))
     unfolding slots_after
     no-out h k fits e =
         let l : length out < length (token_slots t) = rw (eleven t) k in
@@ -174,7 +170,7 @@ module _ (position out : List ℕ) where
 
     -- enough of both
     pub moved : {position' out' : List ℕ} → 134 ≤ length position → 11 ≤ length out → position' ≡ with_type n t (overwrite position 0 (spot_slots next))
-        → Ended (answers 1 (token_slots t)) out out' r → Left n (answer.Token t) next position' out' r
+        → Ended (answers 1 (token_slots t)) out out' r → Left n (Ok (Some t)) next position' out' r
     unfolding slots_after
     moved h k e s = simp (le-ltb _ _ h, le-ltb _ _ k) (s.0, (e, s.1))
 
@@ -185,19 +181,19 @@ module _ (position out : List ℕ) where
         let call = step_call packet position in (r ≡ answer_of call out) × ((position' ≡ position_left packet position out) × (out' ≡ slots_of call out))
 
     -- what was found, as a step of the position in the slots
-    pub found : {at : Spot} {types : HeldTypes} {g h : Got} → at ≡ spot_of (position_of position) → types ≡ held_in (position_of position) → g ≡ got_of packet at types → g ≡ h
+    pub found : {at : Spot} {types : HeldTypes} {g h : Found} → at ≡ spot_of (position_of position) → types ≡ held_in (position_of position) → g ≡ got_of packet at types → g ≡ h
         → step_by (position_of position) h ≡ step_of packet (position_of position)
     found {types} p q f e = ap (step_by (position_of position)) (sym e) ∙ stepped packet (position_of position) q (f ∙ ap (λ (a : Spot). got_of packet a types) p)
 
     -- and the spot after a token
-    pub after-found : {g : Got} {at next : Spot} {t : Token} {number place : ℕ} → g ≡ got.Token t number place → at ≡ spot_of (position_of position) → next ≡ spot_after at t number place
+    pub after-found : {at next : Spot} (t : Token) (number place : ℕ) → at ≡ spot_of (position_of position) → next ≡ spot_after at t number place
         → next ≡ spot_of (after (position_of position) t (record { packet = number; place = place }))
-    after-found {t} {number} {place} q p e = e ∙ ap (λ (a : Spot). spot_after a t number place) p ∙ sym (after-spot (position_of position) t number place)
+    after-found t number place p e = e ∙ ap (λ (a : Spot). spot_after a t number place) p ∙ sym (after-spot (position_of position) t number place)
 
-    pub told : {s : Step} {a : Answer} {next : Spot} {n : ℕ} {position' out' : List ℕ} {r : ℤ} → s ≡ step_of packet (position_of position) → s.answer ≡ a
+    pub told : {s : StepOf} {a : Answer} {next : Spot} {n : ℕ} {position' out' : List ℕ} {r : ℤ} → s ≡ step_of packet (position_of position) → s.answer ≡ a
         → next ≡ spot_of s.next → n ≡ (position_of position).count - (position_of position).columns_left → Left n a next position' out' r → Told position' out' r
     unfolding step_call position_left
     told {a} {next} {n} f g h k l =
-        let q : (step_of packet (position_of position)).answer ≡ a = sym (ap (λ (s : Step). s.answer) f) ∙ g in
-        let w : next ≡ spot_of (step_of packet (position_of position)).next = h ∙ ap (λ (s : Step). spot_of s.next) f in
+        let q : (step_of packet (position_of position)).answer ≡ a = sym (ap (λ (s : StepOf). s.answer) f) ∙ g in
+        let w : next ≡ spot_of (step_of packet (position_of position)).next = h ∙ ap (λ (s : StepOf). spot_of s.next) f in
         rw (q, ← k, ← w) (l.0, (l.1.0, l.1.1))

@@ -1,5 +1,6 @@
 -- What a step's answer tells of the next position: the same one, or the one after the token; and a column that is read has a column type.
 -- Assumes nothing.
+use Rattle.std.specs.Prelude.{Some, None, Ok, Err}
 use Prim.Native.Nat.{ℕ, ◌+◌, ◌-◌}
 use mathlib.Core.Path.{◌≡◌, refl}
 use mathlib.Core.Bool.{Bool, true, false, cond, ◌&&◌, ◌||◌}
@@ -16,14 +17,12 @@ use Rattle.payload.specs.Positions as positions
 use Rattle.payload.specs.Positions.{Placed, Corner, place_in, corner_of}
 use Rattle.cells.specs.declared.TypeInfo.{TypeInfo}
 use Rattle.cells.specs.Cells.{is_code, is_type, type_at, cell_at}
-use Rattle.reader.specs.declared.Answer.{Answer}
-use Rattle.reader.specs.declared.Answer.TheVariants as answer
 use Rattle.reader.specs.declared.Position.{Position}
 use Rattle.reader.specs.declared.Token.{Token}
 use Rattle.reader.specs.declared.Token.TheVariants.{ColMetadata, Column, Row, Cell, Done, Message}
 use Rattle.reader.specs.ReadTokens.{column_at, metadata_at, row_at, done_at, texts_at, message_at, token_at}
 use Rattle.reader.specs.Positions.{stands, after}
-use Rattle.reader.specs.Reader.{settled, row_cell_at, next_at, end_at, refused_at, step_from, step_of}
+use Rattle.reader.specs.Reader.{Answer, settled, row_cell_at, next_at, end_at, refused_at, step_from, step_of}
 
 -- ---- what holds of whatever is read
 
@@ -109,16 +108,16 @@ next-typed p at pos =
 -- ---- what an answer tells of the next position
 
 abbrev pub Following : Position → Answer → Position → Type 0
-Following pos (answer.Token t) next = (c : Corner) × ((next ≡ after pos t c) × Typed t)
-Following pos answer.End next = next ≡ pos
-Following pos (answer.Refused n) next = next ≡ pos
+Following pos (Ok (Some t)) next = (c : Corner) × ((next ≡ after pos t c) × Typed t)
+Following pos (Ok None) next = next ≡ pos
+Following pos (Err n) next = next ≡ pos
 
 module _ (l : List ℕ) (pos : Position) where
   settled-following : (r : Read Token) → All Typed r → let s = settled (packets_in l) pos r in Following pos s.answer s.next
   settled-following (whole t at) g = (corner_of (packets_in l) at, (refl, g))
   settled-following (refused n) g = refl
 
-  end-following : (left over : Bool) (n : ℕ) → Following pos (cond left (answer.Refused 26) (cond over answer.End (answer.Refused n))) pos
+  end-following : (left over : Bool) (n : ℕ) → Following pos (cond left (Err 26) (cond over (Ok None) (Err n))) pos
   end-following true over n = refl
   end-following false true n = refl
   end-following false false n = refl

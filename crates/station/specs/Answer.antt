@@ -1,5 +1,5 @@
 -- What an export answers: a number and the values of its first slots, or a refusal. Rests on wire's `overwrite`.
-use Rattle.std.specs.Prelude.{ℕ, cond, List, [], ◌∷◌, length, ltb, ℤ, pos, neg_ℤ}
+use Rattle.std.specs.Prelude.{ℕ, Result, Ok, Err, cond, List, [], ◌∷◌, length, ltb, ℤ, pos, neg_ℤ}
 use Rattle.refusals.specs.Numbers.{buffer_too_short}
 use Rattle.wire.specs.Over.{overwrite}
 use Rattle.wire.specs.declared.Part.{Part}
@@ -12,6 +12,11 @@ pub data Outcome : Type 0 where
 -- a number with a part's start and length
 abbrev pub answers_part : ℕ → Part → Outcome
 answers_part n p = answers n (p.start ∷ p.len ∷ [])
+
+-- a count that is told without slots, or a refusal
+abbrev pub built_outcome : Result ℕ ℕ → Outcome
+built_outcome (Ok n) = answers n []
+built_outcome (Err n) = refuses n
 
 -- as an i64: the number, or -N of refusal N
 unfoldable pub number_of : Outcome → ℤ

@@ -1,23 +1,20 @@
 -- What each export answers. Rests on the definitions of the crates that they call.
-use Rattle.std.specs.Prelude.{ℕ, cond, List, [], ◌∷◌, eqb}
+use Rattle.std.specs.Prelude.{ℕ, cond, List, [], ◌∷◌, eqb, Option, Some, None, Result, Ok, Err}
 use Rattle.text.specs.Units.{units}
 use Rattle.text.specs.Surrogates.{characters, utf8_length, has_pair}
 use Rattle.text.specs.Space.{is_whitespace}
 use Rattle.text.specs.Arguments.{text_fault}
 use Rattle.refusals.specs.Numbers.{unknown_packet_type}
 use Rattle.packet.specs.declared.PacketHeader.{PacketHeader}
-use Rattle.packet.specs.declared.KnownType.{KnownType}
-use Rattle.packet.specs.declared.KnownType.TheVariants.{Known, Unknown}
-use Rattle.packet.specs.declared.Parsed.{Parsed}
-use Rattle.packet.specs.declared.Parsed.TheVariants.{Header, Refused}
+use Rattle.packet.specs.declared.PacketType.{PacketType}
 use Rattle.packet.specs.Types.{byte_of, type_of}
 use Rattle.packet.specs.Header.{parsed_of, header_bytes}
 use Rattle.station.specs.Answer.{Outcome, answers, refuses}
 
 -- type, status, length, spid, number, window
-abbrev pub header_outcome : Parsed → Outcome
-header_outcome (Header h) = answers 0 (byte_of h.packet_type ∷ h.status.0 ∷ h.length ∷ h.spid ∷ h.packet_id ∷ h.window ∷ [])
-header_outcome (Refused n) = refuses n
+abbrev pub header_outcome : Result PacketHeader ℕ → Outcome
+header_outcome (Ok h) = answers 0 (byte_of h.packet_type ∷ h.status.0 ∷ h.length ∷ h.spid ∷ h.packet_id ∷ h.window ∷ [])
+header_outcome (Err n) = refuses n
 
 unfoldable pub header_call : List ℕ → Outcome
 header_call s = header_outcome (parsed_of s)
@@ -26,8 +23,8 @@ header_call s = header_outcome (parsed_of s)
 unfoldable pub written_header : PacketHeader → Outcome
 written_header h = answers 8 (header_bytes h)
 
-abbrev pub write_outcome : KnownType → (status size spid number window : ℕ) → Outcome
-write_outcome (Known t) status size spid number window =
+abbrev pub write_outcome : Option PacketType → (status size spid number window : ℕ) → Outcome
+write_outcome (Some t) status size spid number window =
     written_header (record {
       packet_type = t;
       status = record { 0 = status };
@@ -36,7 +33,7 @@ write_outcome (Known t) status size spid number window =
       packet_id = number;
       window = window;
     })
-write_outcome Unknown status size spid number window = refuses unknown_packet_type
+write_outcome None status size spid number window = refuses unknown_packet_type
 
 -- the header of a type byte and its other fields; 9 of an unknown type
 unfoldable pub write_header_call : (code status size spid number window : ℕ) → Outcome

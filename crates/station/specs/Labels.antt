@@ -1,6 +1,6 @@
 -- What the exports that read and write event labels answer. Rests on the labels of `windows1252`.
-use Rattle.std.specs.Prelude.{ℕ, ◌*◌, ◌^◌, ◌≤◌, ◌≡◌, List, [], length, pos}
-use Rattle.windows1252.specs.Labels.{Reading, text, null, not_read, read_of, Writing, value, not_written, written_of}
+use Rattle.std.specs.Prelude.{ℕ, ◌*◌, ◌^◌, ◌≤◌, ◌≡◌, List, [], length, pos, Some, None, Ok, Err}
+use Rattle.windows1252.specs.Labels.{Reading, read_of, Writing, written_of}
 use Rattle.station.specs.Answer.{Outcome, answers, refuses, number_of, answer_of}
 
 -- the number of null, which is that of no text
@@ -9,17 +9,17 @@ null_label = 2 ^ 32
 
 -- how many bytes of text, and the bytes: the slots are here the bytes of the lent buffer. Null has none
 abbrev pub read_outcome : Reading → Outcome
-read_outcome (text t) = answers (length t) t
-read_outcome null = answers null_label []
-read_outcome (not_read n) = refuses n
+read_outcome (Ok (Some t)) = answers (length t) t
+read_outcome (Ok None) = answers null_label []
+read_outcome (Err n) = refuses n
 
 unfoldable pub read_label_call : List ℕ → Outcome
 read_label_call v = read_outcome (read_of v)
 
 -- how many bytes of a value, and the bytes
 abbrev pub written_outcome : Writing → Outcome
-written_outcome (value v) = answers (length v) v
-written_outcome (not_written n) = refuses n
+written_outcome (Ok v) = answers (length v) v
+written_outcome (Err n) = refuses n
 
 unfoldable pub write_label_call : List ℕ → Outcome
 write_label_call t = written_outcome (written_of t)
@@ -34,4 +34,4 @@ LabelsEnough =
 
 -- the answer of null is that of no other value
 abbrev pub NullAlone : Type 0
-NullAlone = (v buf : List ℕ) → answer_of (read_label_call v) buf ≡ pos null_label → read_of v ≡ null
+NullAlone = (v buf : List ℕ) → answer_of (read_label_call v) buf ≡ pos null_label → read_of v ≡ Ok None

@@ -1,18 +1,12 @@
 -- What the export that reads a stored procedure call answers. Rests on the definitions of `rpc`.
-use Rattle.std.specs.Prelude.{ℕ, List, [], ◌∷◌}
+use Rattle.std.specs.Prelude.{ℕ, List, [], ◌∷◌, Option, Some, None, Result, Ok, Err}
 use Rattle.wire.specs.declared.Part.{Part}
 use Rattle.cells.specs.declared.Value.{Value}
 use Rattle.cells.specs.declared.Value.TheVariants as value
 use Rattle.rpc.specs.declared.Procedure.{Procedure}
 use Rattle.rpc.specs.declared.Procedure.TheVariants.{Name, Number}
-use Rattle.rpc.specs.declared.Statement.{Statement}
-use Rattle.rpc.specs.declared.Statement.TheVariants as statement
 use Rattle.rpc.specs.declared.Parameter.{Parameter}
-use Rattle.rpc.specs.declared.Asked.{Asked}
-use Rattle.rpc.specs.declared.Asked.TheVariants as asked
 use Rattle.rpc.specs.declared.Call.{Call}
-use Rattle.rpc.specs.declared.Rpc.{Rpc}
-use Rattle.rpc.specs.declared.Rpc.TheVariants as rpc
 use Rattle.rpc.specs.Rpc.{rpc_of}
 use Rattle.station.specs.Answer.{Outcome, answers, refuses}
 use Rattle.station.specs.Steps.{bits_of}
@@ -37,19 +31,19 @@ number_slot (Number n) = n
 
 -- ---- the statement; where there is none a start of 2^64 - 1, which no part has, and a length of 0
 
-abbrev pub statement_part : Statement → Part
-statement_part (statement.Value part) = part
-statement_part statement.Missing = record { start = 0xFFFF_FFFF_FFFF_FFFF; len = 0 }
+abbrev pub statement_part : Option Part → Part
+statement_part (Some part) = part
+statement_part None = record { start = 0xFFFF_FFFF_FFFF_FFFF; len = 0 }
 
 -- ---- the parameter: 1 where there is one of the number, else 0
 
-abbrev pub found_slot : Asked → ℕ
-found_slot (asked.Found p) = 1
-found_slot asked.Missing = 0
+abbrev pub found_slot : Option Parameter → ℕ
+found_slot (Some p) = 1
+found_slot None = 0
 
-abbrev pub parameter_of : Asked → Parameter
-parameter_of (asked.Found p) = p
-parameter_of asked.Missing =
+abbrev pub parameter_of : Option Parameter → Parameter
+parameter_of (Some p) = p
+parameter_of None =
     record { name = no_part; status = 0; info = record { code = 0; limit = 0; collation = no_part }; value = value.Null }
 
 -- ---- its value, by case: 0 null, 1 a number, 2 a part, 3 a Max part
@@ -92,9 +86,9 @@ call_slots call =
     ∷ case_slot parameter.value ∷ bits_slot parameter.value ∷ held.start ∷ held.len
     ∷ []
 
-abbrev pub rpc_outcome : Rpc → Outcome
-rpc_outcome (rpc.Call call) = answers 0 (call_slots call)
-rpc_outcome (rpc.Refused n) = refuses n
+abbrev pub rpc_outcome : Result Call ℕ → Outcome
+rpc_outcome (Ok call) = answers 0 (call_slots call)
+rpc_outcome (Err n) = refuses n
 
 -- where the parameter of a number is asked for
 unfoldable pub rpc_call : List ℕ → (number : ℕ) → Outcome

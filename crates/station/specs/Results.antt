@@ -1,24 +1,15 @@
 -- What the exports that reply to scripts answer. Rests on the definitions of `result` and `fit`.
-use Rattle.std.specs.Prelude.{ℕ, ◌+◌, ◌≤◌, ◌≡◌, List, [], ◌∷◌, ℤ, pos, negsuc, neg_ℤ}
+use Rattle.std.specs.Prelude.{ℕ, Option, Some, None, Result, Ok, Err, ◌+◌, ◌≤◌, ◌≡◌, List, [], ◌∷◌, ℤ, pos, negsuc, neg_ℤ}
 use Rattle.refusals.specs.Numbers.{buffer_too_short}
 use Rattle.result.specs.Built.{room_of, room_at, built_of, built_in_packets}
-use Rattle.result.specs.declared.Built.{Built}
-use Rattle.result.specs.declared.Built.TheVariants.{Written, Refused as BuiltRefused}
 use Rattle.wire.specs.Over.{overwrite}
 use Rattle.fit.specs.Misfits.{fit_of}
 use Rattle.fit.specs.First.{IsFirst}
 use Rattle.fit.specs.declared.Misfit.{Misfit}
 use Rattle.fit.specs.declared.Misfit.TheVariants.{Classification, Column, Cell}
-use Rattle.fit.specs.declared.Fit.{Fit}
-use Rattle.fit.specs.declared.Fit.TheVariants.{Yes, No, Refused as FitRefused}
-use Rattle.station.specs.Answer.{Outcome, answers, refuses, number_of, answer_of, slots_of}
+use Rattle.station.specs.Answer.{Outcome, answers, refuses, built_outcome, number_of, answer_of, slots_of}
 
--- the bytes written, or those of a room
-abbrev pub built_outcome : Built → Outcome
-built_outcome (Written n) = answers n []
-built_outcome (BuiltRefused n) = refuses n
-
--- where room bytes are lent
+-- the bytes written where room bytes are lent
 unfoldable pub built_call : List ℕ → (room : ℕ) → Outcome
 built_call s room = built_outcome (built_of s room)
 
@@ -58,10 +49,10 @@ abbrev pub misfit_outcome : Misfit → Outcome
 misfit_outcome m = answers 1 (misfit_slots m)
 
 -- 0 and no slot of a script that fits
-abbrev pub fit_outcome : Fit → Outcome
-fit_outcome Yes = answers 0 []
-fit_outcome (No m) = misfit_outcome m
-fit_outcome (FitRefused n) = refuses n
+abbrev pub fit_outcome : Result (Option Misfit) ℕ → Outcome
+fit_outcome (Ok None) = answers 0 []
+fit_outcome (Ok (Some m)) = misfit_outcome m
+fit_outcome (Err n) = refuses n
 
 unfoldable pub fit_call : List ℕ → Outcome
 fit_call s = fit_outcome (fit_of s)

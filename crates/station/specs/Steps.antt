@@ -1,16 +1,14 @@
 -- The reply reader for C: a position as slots, a token as slots, and what the two calls answer. Rests on the definitions of `reader`.
-use Rattle.std.specs.Prelude.{ℕ, zero, suc, ◌+◌, ◌-◌, ◌*◌, ◌/◌, ◌%◌, ◌^◌, cond, ◌||◌, List, [], ◌∷◌, eqb, leb, ltb, length, get_or, set, replicate, ℤ, pos, negsuc}
+use Rattle.std.specs.Prelude.{ℕ, zero, suc, ◌+◌, ◌-◌, ◌*◌, ◌/◌, ◌%◌, ◌^◌, cond, ◌||◌, List, [], ◌∷◌, eqb, leb, ltb, length, get_or, set, replicate, ℤ, pos, negsuc, Some, None, Ok, Err}
 use Rattle.refusals.specs.Numbers.{buffer_too_short}
 use Rattle.wire.specs.Over.{overwrite}
 use Rattle.cells.specs.declared.Value.{Value}
 use Rattle.cells.specs.declared.Value.TheVariants as value
-use Rattle.reader.specs.declared.Answer.{Answer}
-use Rattle.reader.specs.declared.Answer.TheVariants as answer
 use Rattle.reader.specs.declared.Position.{Position}
 use Rattle.reader.specs.declared.Spot.{Spot}
 use Rattle.reader.specs.declared.Token.{Token}
 use Rattle.reader.specs.declared.Token.TheVariants.{ColMetadata, Column, Row, Cell, Done, Message}
-use Rattle.reader.specs.Reader.{step_of}
+use Rattle.reader.specs.Reader.{Answer, step_of}
 use Rattle.reader.specs.Spots.{spot_of}
 use Rattle.station.specs.Answer.{Outcome, answers, refuses}
 
@@ -88,9 +86,9 @@ token_slots (Message kind number state class text server procedure line) =
 
 -- 1 with the token's slots, where room slots are lent for the position: 20 where they are too few. 0 at the end, and no slot is asked for
 abbrev pub step_outcome : (room : ℕ) → Answer → Outcome
-step_outcome room (answer.Token t) = cond (ltb room 134) (refuses buffer_too_short) (answers 1 (token_slots t))
-step_outcome room answer.End = answers 0 []
-step_outcome room (answer.Refused n) = refuses n
+step_outcome room (Ok (Some t)) = cond (ltb room 134) (refuses buffer_too_short) (answers 1 (token_slots t))
+step_outcome room (Ok None) = answers 0 []
+step_outcome room (Err n) = refuses n
 
 unfoldable pub step_call : (packets position : List ℕ) → Outcome
 step_call packets position = step_outcome (length position) (step_of packets (position_of position)).answer
@@ -111,10 +109,10 @@ with_type n (Message kind number state class text server procedure line) slots =
 -- what stands in the slots lent for a position after a step: after a token those of the next position, where enough slots of it and of
 -- out are lent; else they are as they were
 unfoldable pub slots_after : ℕ → Answer → (next : Spot) → (position out : List ℕ) → List ℕ
-slots_after n (answer.Token t) next position out =
+slots_after n (Ok (Some t)) next position out =
     cond (ltb (length position) 134 || ltb (length out) 11) position (with_type n t (overwrite position 0 (spot_slots next)))
-slots_after n answer.End next position out = position
-slots_after n (answer.Refused r) next position out = position
+slots_after n (Ok None) next position out = position
+slots_after n (Err r) next position out = position
 
 unfoldable pub position_left : (packets position out : List ℕ) → List ℕ
 position_left packets position out =

@@ -1,26 +1,13 @@
 // Replies: the exports of `response`'s builders and of its cutting, by its names and with its arguments. The answer is how many
 // bytes were written to the front of buf, or -N, and then buf is as it was.
-ghost use Rattle.std.specs.Prelude.{◌≡◌, false, ℕ, ◌<◌, ◌^◌, length};
+ghost use Rattle.std.specs.Prelude.{◌≡◌, false, length};
 ghost use Rattle.script.specs.Records.{records};
 ghost use Rattle.response.specs.Answer.{buffer_of};
 ghost use Rattle.response.specs.Packets.{cut_buffer};
 ghost use Rattle.response.specs.Replies.{prelogin_reply, fedauth_ack_reply, classification_ack_reply, features_reply, routing_ack_reply, challenge_reply, fedauth_info_reply, login_ack_reply, done_reply, attention_reply, transaction_reply, info_reply, error_tokens_reply, error_reply, route_reply, routing_reply, database_route_reply, routing_login_reply};
-ghost use Rattle.station.specs.Answer.{number_of};
-ghost use Rattle.station.specs.Builds.{built_outcome, built_number, cut_number, ack_of};
+ghost use Rattle.station.specs.Builds.{built_number, cut_number, ack_of};
 
-use crate::slots::refused;
-use response::{Acknowledgement, Built};
-
-// The number of a builder's answer.
-fn tell(built: Built) -> i64
-    requires { (n : ℕ) → built ≡ Built.Written n → n < 2 ^ 63 }
-    ensures { result ≡ number_of (built_outcome built) }
-{
-    match built {
-        Built::Written(n) => n as i64,
-        Built::Refused(number) => refused(number),
-    }
-}
+use crate::slots::tell;
 
 // PRELOGIN without encryption and FEDAUTH.
 #[unsafe(no_mangle)]
@@ -284,16 +271,12 @@ pub extern "C" fn station_build_enhanced_routing_envchange_token(
     ))
 }
 
-// From here on a number stands for no acknowledgement of enhanced routing.
-const NO_ACK: u16 = 256;
-
-fn acknowledgement(ack: u16) -> Acknowledgement
+// The acknowledgement of enhanced routing that a number stands for: a byte, and none from 256 on.
+#[tactic(auto, unfolding(crate::specs::Builds::ack_of))]
+fn acknowledgement(ack: u16) -> Option<u8>
     ensures { result ≡ ack_of ack }
 {
-    if NO_ACK <= ack {
-        return Acknowledgement::Missing;
-    }
-    Acknowledgement::IsEnabled(ack as u8)
+    u8::try_from(ack).ok()
 }
 
 #[unsafe(no_mangle)]

@@ -4,7 +4,6 @@ ghost use Rattle.station.specs.Answer.{answer_of, slots_of};
 ghost use Rattle.station.specs.Labels.{read_label_call, write_label_call};
 
 use crate::slots::refused;
-use windows1252::{Label, Written};
 
 // The answer for a value that is null: no text has so many bytes.
 const NULL_LABEL: i64 = 4294967296;
@@ -16,9 +15,9 @@ pub extern "C" fn station_read_label(value: &[u8], buf: &mut [u8]) -> i64
     ensures buf_after { buf.new ≡ slots_of (read_label_call value.now) buf.old }
 {
     match windows1252::read_value(value, buf) {
-        Label::Text(length) => length as i64,
-        Label::Null => NULL_LABEL,
-        Label::Refused(number) => refused(number),
+        Ok(Some(length)) => length as i64,
+        Ok(None) => NULL_LABEL,
+        Err(refusal) => refused(refusal.number()),
     }
 }
 
@@ -29,7 +28,7 @@ pub extern "C" fn station_write_label(text: &[u8], buf: &mut [u8]) -> i64
     ensures buf_after { buf.new ≡ slots_of (write_label_call text.now) buf.old }
 {
     match windows1252::write_value(text, buf) {
-        Written::Value(length) => length as i64,
-        Written::Refused(number) => refused(number),
+        Ok(length) => length as i64,
+        Err(refusal) => refused(refusal.number()),
     }
 }

@@ -18,8 +18,8 @@ ghost use Rattle.std.specs.Prelude.{◌≡◌};
 ghost use Rattle.station.specs.Answer.{number_of, answer_of, slots_of};
 ghost use Rattle.station.specs.Calls.{header_outcome, header_call, written_header, write_header_call, whitespace_call, text_outcome, text_call};
 
-use packet::{KnownType, PACKET_HEADER_SIZE, PacketHeader, PacketStatus, PacketType, Parsed};
-use refusals::{BUFFER_TOO_SHORT, NONE, UNKNOWN_PACKET_TYPE};
+use packet::{PACKET_HEADER_SIZE, PacketHeader, PacketStatus, PacketType};
+use refusals::Refusal;
 use slots::{answered, flag, refused};
 
 // 0: type, status, length, spid, number and window of a packet header.
@@ -29,14 +29,14 @@ pub extern "C" fn station_parse_header(bytes: &[u8], out: &mut [u64]) -> i64
     ensures out_after { out.new ≡ slots_of (header_call bytes.now) out.old }
 {
     match PacketHeader::parse(bytes) {
-        Parsed::Header(header) => tell_header(header, out),
-        Parsed::Refused(number) => refused(number),
+        Ok(header) => tell_header(header, out),
+        Err(refusal) => refused(refusal.number()),
     }
 }
 
 fn tell_header(header: PacketHeader, out: &mut [u64]) -> i64
-    ensures value { result ≡ answer_of (header_outcome (Parsed.Header header)) out.old }
-    ensures out_after { out.new ≡ slots_of (header_outcome (Parsed.Header header)) out.old }
+    ensures value { result ≡ answer_of (header_outcome (Ok header)) out.old }
+    ensures out_after { out.new ≡ slots_of (header_outcome (Ok header)) out.old }
 {
     let packet_type = header.packet_type;
     let values = [
@@ -65,7 +65,7 @@ pub extern "C" fn station_write_header(
     ensures buf_after { buf.new ≡ slots_of (write_header_call packet_type status length spid number window) buf.old }
 {
     match PacketType::try_from(packet_type) {
-        KnownType::Known(known) => {
+        Ok(known) => {
             let header = PacketHeader {
                 packet_type: known,
                 status: PacketStatus(status),
@@ -76,7 +76,7 @@ pub extern "C" fn station_write_header(
             };
             write_header(header, buf)
         }
-        KnownType::Unknown => refused(UNKNOWN_PACKET_TYPE),
+        Err(refusal) => refused(refusal.number()),
     }
 }
 
@@ -85,7 +85,7 @@ fn write_header(header: PacketHeader, buf: &mut [u8]) -> i64
     ensures buf_after { buf.new ≡ slots_of (written_header header) buf.old }
 {
     if buf.len() < PACKET_HEADER_SIZE {
-        return refused(BUFFER_TOO_SHORT);
+        return refused(Refusal::BufferTooShort.number());
     }
     header.write(buf, 0) as i64
 }
@@ -104,11 +104,10 @@ pub extern "C" fn station_text(text: &[u8], out: &mut [u64]) -> i64
     ensures value { result ≡ answer_of (text_call text.now) out.old }
     ensures out_after { out.new ≡ slots_of (text_call text.now) out.old }
 {
-    let fault = text::text_fault(text);
-    if fault != NONE {
-        return refused(fault);
+    match text::text_fault(text) {
+        Ok(()) => tell_text(text, out),
+        Err(refusal) => refused(refusal.number()),
     }
-    tell_text(text, out)
 }
 
 fn tell_text(text: &[u8], out: &mut [u64]) -> i64

@@ -6,7 +6,7 @@ ghost use Rattle.station.specs.Procedures.{named_slot, name_part, number_slot, s
 use crate::slots::{answered, refused};
 use crate::steps::bits;
 use cells::{TypeInfo, Value};
-use rpc::{Asked, Call, Parameter, Procedure, Rpc, Statement};
+use rpc::{Call, Parameter, Procedure};
 use wire::Part;
 
 // The start of a part that is not there: no part has it.
@@ -19,8 +19,8 @@ pub extern "C" fn station_parse_rpc_request(body: &[u8], number: u64, out: &mut 
     ensures out_after { out.new ≡ slots_of (rpc_call body.now number) out.old }
 {
     match rpc::parse_rpc_request(body, number as usize) {
-        Rpc::Call(call) => tell_call(call, out),
-        Rpc::Refused(n) => refused(n),
+        Ok(call) => tell_call(call, out),
+        Err(refusal) => refused(refusal.number()),
     }
 }
 
@@ -28,35 +28,30 @@ fn tell_call(call: Call, out: &mut [u64]) -> i64
     ensures value { result ≡ answer_of (answers 0 (call_slots call)) out.old }
     ensures out_after { out.new ≡ slots_of (answers 0 (call_slots call)) out.old }
 {
-    let procedure = call.procedure;
-    let statement = call.statement;
-    let asked = call.asked;
-    let named = name_part(procedure);
-    let run = statement_part(statement);
-    let parameter = parameter_of(asked);
+    let named = name_part(call.procedure);
+    let run = statement_part(call.statement);
+    let parameter = parameter_of(call.asked);
     let name = parameter.name;
     let info = parameter.info;
-    let collation = info.collation;
-    let value = parameter.value;
-    let held = value_part(value);
+    let held = value_part(parameter.value);
     let values = [
-        named_slot(procedure),
+        named_slot(call.procedure),
         named.start as u64,
         named.len as u64,
-        number_slot(procedure),
+        number_slot(call.procedure),
         call.flags as u64,
         run.start as u64,
         run.len as u64,
-        found_slot(asked),
+        found_slot(call.asked),
         name.start as u64,
         name.len as u64,
         parameter.status as u64,
         info.code as u64,
         info.limit as u64,
-        collation.start as u64,
-        collation.len as u64,
-        case_slot(value),
-        bits_slot(value),
+        info.collation.start as u64,
+        info.collation.len as u64,
+        case_slot(parameter.value),
+        bits_slot(parameter.value),
         held.start as u64,
         held.len as u64,
     ];
@@ -92,35 +87,32 @@ fn number_slot(procedure: Procedure) -> u64
     }
 }
 
-fn statement_part(statement: Statement) -> Part
+fn statement_part(statement: Option<Part>) -> Part
     ensures { result ≡ statement_part statement }
 {
-    match statement {
-        Statement::Value(part) => part,
-        Statement::Missing => Part {
-            start: NO_START,
-            len: 0,
-        },
-    }
+    statement.unwrap_or(Part {
+        start: NO_START,
+        len: 0,
+    })
 }
 
 // 1 where there is a parameter of the number, else 0.
-fn found_slot(asked: Asked) -> u64
+fn found_slot(asked: Option<Parameter>) -> u64
     ensures { result ≡ found_slot asked }
 {
     match asked {
-        Asked::Found(_) => 1,
-        Asked::Missing => 0,
+        Some(_) => 1,
+        None => 0,
     }
 }
 
 // The parameter of the number; where there is none, one that is 0 in every slot.
-fn parameter_of(asked: Asked) -> Parameter
+fn parameter_of(asked: Option<Parameter>) -> Parameter
     ensures { result ≡ parameter_of asked }
 {
     match asked {
-        Asked::Found(parameter) => parameter,
-        Asked::Missing => Parameter {
+        Some(parameter) => parameter,
+        None => Parameter {
             name: no_part(),
             status: 0,
             info: TypeInfo {

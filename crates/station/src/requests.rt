@@ -5,8 +5,7 @@ ghost use Rattle.station.specs.Answer.{number_of, answer_of, slots_of};
 ghost use Rattle.station.specs.Requests.{batch_call, transaction_call, descriptor_call, token_call, capture_call};
 
 use crate::slots::{answered, answered_part, refused};
-use capture_marks::Marked;
-use request::{Batch, Descriptor, FedAuthToken, TransactionRequest};
+use request::Descriptor;
 
 // 0: start and length of a batch's text.
 #[unsafe(no_mangle)]
@@ -15,8 +14,8 @@ pub extern "C" fn station_parse_sql_batch(body: &[u8], out: &mut [u64]) -> i64
     ensures out_after { out.new ≡ slots_of (batch_call body.now) out.old }
 {
     match request::parse_sql_batch(body) {
-        Batch::Text(part) => answered_part(out, 0, part),
-        Batch::Refused(number) => refused(number),
+        Ok(part) => answered_part(out, 0, part),
+        Err(refusal) => refused(refusal.number()),
     }
 }
 
@@ -26,8 +25,8 @@ pub extern "C" fn station_parse_transaction_manager_request(body: &[u8]) -> i64
     ensures { result ≡ number_of (transaction_call body.now) }
 {
     match request::parse_transaction_manager_request(body) {
-        TransactionRequest::RequestType(kind) => kind as i64,
-        TransactionRequest::Refused(number) => refused(number),
+        Ok(kind) => kind as i64,
+        Err(refusal) => refused(refusal.number()),
     }
 }
 
@@ -38,8 +37,8 @@ pub extern "C" fn station_parse_transaction_descriptor_header(body: &[u8], out: 
     ensures out_after { out.new ≡ slots_of (descriptor_call body.now) out.old }
 {
     match request::parse_transaction_descriptor_header(body) {
-        Descriptor::Found { descriptor, count } => answered(out, 1, &[descriptor, count as u64]),
-        Descriptor::Missing => 0,
+        Some(Descriptor { descriptor, count }) => answered(out, 1, &[descriptor, count as u64]),
+        None => 0,
     }
 }
 
@@ -50,8 +49,8 @@ pub extern "C" fn station_parse_fedauth_token(payload: &[u8], out: &mut [u64]) -
     ensures out_after { out.new ≡ slots_of (token_call payload.now) out.old }
 {
     match request::parse_fedauth_token(payload) {
-        FedAuthToken::Bytes(part) => answered_part(out, 0, part),
-        FedAuthToken::Refused(number) => refused(number),
+        Ok(part) => answered_part(out, 0, part),
+        Err(refusal) => refused(refusal.number()),
     }
 }
 
@@ -62,7 +61,7 @@ pub extern "C" fn station_capture_marks(capture: &[u8], out: &mut [u64]) -> i64
     ensures out_after { out.new ≡ slots_of (capture_call capture.now) out.old }
 {
     match capture_marks::marks(capture, out) {
-        Marked::Count(count) => count as i64,
-        Marked::Refused(number) => refused(number),
+        Ok(count) => count as i64,
+        Err(refusal) => refused(refusal.number()),
     }
 }

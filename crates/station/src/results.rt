@@ -1,23 +1,11 @@
 // Replies to scripts: the reply builder under its four names and in packets, the room for both, and the fit check.
-ghost use Rattle.std.specs.Prelude.{◌≡◌, ℕ, ◌<◌, ◌^◌, length};
+ghost use Rattle.std.specs.Prelude.{◌≡◌, length};
 ghost use Rattle.result.specs.Built.{buffer_of, buffer_in_packets};
 ghost use Rattle.station.specs.Answer.{number_of, answer_of, slots_of};
-ghost use Rattle.station.specs.Results.{built_outcome, built_call, in_packets_call, room_call, room_in_packets_call, misfit_outcome, fit_call};
+ghost use Rattle.station.specs.Results.{built_call, in_packets_call, room_call, room_in_packets_call, misfit_outcome, fit_call};
 
-use crate::slots::{answered, refused};
-use fit::{Fit, Misfit};
-use result::Built;
-
-// The bytes that a builder wrote, or that there must be room for; or the refusal.
-fn bytes_written(built: Built) -> i64
-    requires { (n : ℕ) → built ≡ Built.Written n → n < 2 ^ 63 }
-    ensures { result ≡ number_of (built_outcome built) }
-{
-    match built {
-        Built::Written(n) => n as i64,
-        Built::Refused(number) => refused(number),
-    }
-}
+use crate::slots::{answered, refused, tell};
+use fit::Misfit;
 
 // The bytes written of a script's reply.
 #[unsafe(no_mangle)]
@@ -25,7 +13,7 @@ pub extern "C" fn station_build_query_results(script: &[u8], buf: &mut [u8]) -> 
     ensures value { result ≡ number_of (built_call script.now (length buf.old)) }
     ensures buf_after { buf.new ≡ buffer_of script.now buf.old }
 {
-    bytes_written(result::build_query_results(script, buf))
+    tell(result::build_query_results(script, buf))
 }
 
 // The Rust's narrowings.
@@ -66,7 +54,7 @@ pub extern "C" fn station_build_query_results_in_packets(
     ensures value { result ≡ number_of (in_packets_call size script.now (length buf.old)) }
     ensures buf_after { buf.new ≡ buffer_in_packets size script.now buf.old }
 {
-    bytes_written(result::build_query_results_in_packets(script, size, buf))
+    tell(result::build_query_results_in_packets(script, size, buf))
 }
 
 // Room to lend for a script's reply: exactly its length.
@@ -74,7 +62,7 @@ pub extern "C" fn station_build_query_results_in_packets(
 pub extern "C" fn station_room(script: &[u8]) -> i64
     ensures { result ≡ number_of (room_call script.now) }
 {
-    bytes_written(result::room_estimate(script))
+    tell(result::room_estimate(script))
 }
 
 // Room to lend for it in packets of a size: exactly their sum, headers included.
@@ -82,7 +70,7 @@ pub extern "C" fn station_room(script: &[u8]) -> i64
 pub extern "C" fn station_room_in_packets(script: &[u8], size: usize) -> i64
     ensures { result ≡ number_of (room_in_packets_call size script.now) }
 {
-    bytes_written(result::room_in_packets(script, size))
+    tell(result::room_in_packets(script, size))
 }
 
 // 1: kind (1 classification, 2 column, 3 cell), set, row and column of the first misfit, 0 where there is none. 0: the script
@@ -93,9 +81,9 @@ pub extern "C" fn station_fit(script: &[u8], out: &mut [u64]) -> i64
     ensures out_after { out.new ≡ slots_of (fit_call script.now) out.old }
 {
     match fit::check(script) {
-        Fit::Yes => 0,
-        Fit::No(misfit) => tell_misfit(misfit, out),
-        Fit::Refused(number) => refused(number),
+        Ok(None) => 0,
+        Ok(Some(misfit)) => tell_misfit(misfit, out),
+        Err(refusal) => refused(refusal.number()),
     }
 }
 

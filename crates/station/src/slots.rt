@@ -1,8 +1,9 @@
 // How an export ends: with its number and its slots, or with a refusal.
-ghost use Rattle.std.specs.Prelude.{◌≡◌, cond, ◌<◌, ◌^◌};
-ghost use Rattle.station.specs.Answer.{answers, answers_part, refuses, number_of, answer_of, slots_of};
+ghost use Rattle.std.specs.Prelude.{◌≡◌, ℕ, Ok, cond, ◌<◌, ◌^◌};
+ghost use Rattle.refusals.specs.Refused.{numbered};
+ghost use Rattle.station.specs.Answer.{answers, answers_part, refuses, number_of, answer_of, slots_of, built_outcome};
 
-use refusals::BUFFER_TOO_SHORT;
+use refusals::Refusal;
 use wire::Part;
 
 // The last step of an export that has slots, after all its other refusals: its number, and the values of the first slots.
@@ -12,13 +13,9 @@ pub(crate) fn answered(out: &mut [u64], number: usize, values: &[u64]) -> i64
     ensures out_after { out.new ≡ slots_of (answers number values.now) out.old }
 {
     if out.len() < values.len() {
-        return refused(BUFFER_TOO_SHORT);
+        return refused(Refusal::BufferTooShort.number());
     }
-    let mut i = 0;
-    while i < values.len() {
-        out[i] = values[i];
-        i += 1;
-    }
+    out[..values.len()].copy_from_slice(values);
     number as i64
 }
 
@@ -38,9 +35,20 @@ pub(crate) fn refused(number: u8) -> i64
     -(number as i64)
 }
 
+// How an export without slots ends: with a count, or with a refusal.
+pub(crate) fn tell(built: Result<usize, Refusal>) -> i64
+    requires { (n : ℕ) → built ≡ Ok n → n < 2 ^ 63 }
+    ensures { result ≡ number_of (built_outcome (numbered built)) }
+{
+    match built {
+        Ok(n) => n as i64,
+        Err(r) => refused(r.number()),
+    }
+}
+
 // The value of a test: 1 or 0.
 pub(crate) fn flag(test: bool) -> u64
     ensures { result ≡ cond test 1 0 }
 {
-    if test { 1 } else { 0 }
+    u64::from(test)
 }

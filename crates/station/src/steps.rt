@@ -1,7 +1,6 @@
 // The reply reader: a position is lent as slots, and a step writes the token's slots and the next position.
 ghost use Rattle.std.specs.Prelude.{◌≡◌, cond, ◌+◌, ◌≤◌, leb, ltb, length, get_or, set};
 ghost use Rattle.wire.specs.Over.{overwrite};
-ghost use Rattle.reader.specs.declared.Answer.TheVariants as answer;
 ghost use Rattle.reader.specs.declared.Token.TheVariants as token;
 ghost use Rattle.reader.specs.Positions.{held};
 ghost use Rattle.reader.specs.Spots.{spot_of, held_in};
@@ -9,11 +8,11 @@ ghost use Rattle.cells.specs.Cells.{is_type};
 ghost use Rattle.station.specs.Answer.{answers, answer_of, slots_of};
 ghost use Rattle.station.specs.Steps.{code_of, length_of, first_of, position_of, fresh_call, bits_of, four_slots, cell_slots, token_slots, step_outcome, step_call, spot_slots, with_type, slots_after, position_left};
 
-use crate::slots::{answered, flag, refused};
+use crate::slots::{answered, refused};
 use cells::Value;
 use payload::minus;
-use reader::{Got, HeldTypes, MAX_COLUMNS, Spot, Token, got_at, spot_after};
-use refusals::BUFFER_TOO_SHORT;
+use reader::{HeldTypes, MAX_COLUMNS, Spot, Token, got_at, spot_after};
+use refusals::Refusal;
 use wire::Part;
 
 // The slots of a position.
@@ -52,28 +51,28 @@ pub extern "C" fn station_step(packets: &[u8], position: &mut [u64], out: &mut [
 {
     let at = spot_in(position);
     match got_at(packets, at, held_in(position, at)) {
-        Got::Token(token, packet, place) => {
+        Ok(Some(got)) => {
             let columns = minus(at.count, at.columns_left);
-            let next = spot_after(at, token, packet, place);
-            move_on(token, columns, next, position, out)
+            let next = spot_after(at, got.token, got.packet, got.place);
+            move_on(got.token, columns, next, position, out)
         },
-        Got::End => 0,
-        Got::Refused(number) => refused(number),
+        Ok(None) => 0,
+        Err(refusal) => refused(refusal.number()),
     }
 }
 
 // A token that was read when so many columns were: its slots, and those of the next position.
 fn move_on(token: Token, columns: usize, next: Spot, position: &mut [u64], out: &mut [u64]) -> i64
     requires { columns ≤ 128 }
-    ensures value { result ≡ answer_of (step_outcome (length position.old) (answer.Token token)) out.old }
-    ensures position_after { position.new ≡ slots_after columns (answer.Token token) next position.old out.old }
-    ensures out_after { out.new ≡ slots_of (step_outcome (length position.old) (answer.Token token)) out.old }
+    ensures value { result ≡ answer_of (step_outcome (length position.old) (Ok (Some token))) out.old }
+    ensures position_after { position.new ≡ slots_after columns (Ok (Some token)) next position.old out.old }
+    ensures out_after { out.new ≡ slots_of (step_outcome (length position.old) (Ok (Some token))) out.old }
 {
     if position.len() < POSITION_SLOTS {
-        return refused(BUFFER_TOO_SHORT);
+        return refused(Refusal::BufferTooShort.number());
     }
     if out.len() < STEP_SLOTS {
-        return refused(BUFFER_TOO_SHORT);
+        return refused(Refusal::BufferTooShort.number());
     }
     put_spot(position, next);
     put_type(position, columns, token);
@@ -128,12 +127,10 @@ fn are_types(slots: &[u64], n: usize) -> bool
     if minus(slots.len(), FIRST_TYPE) < n {
         return false;
     }
-    let mut i = 0;
-    while i < n {
+    for i in 0..n {
         if !is_type(slots[FIRST_TYPE + i]) {
             return false;
         }
-        i += 1;
     }
     true
 }
@@ -153,7 +150,7 @@ fn is_type(slot: u64) -> bool
 fn slot_at(slots: &[u64], at: usize) -> u64
     ensures { result ≡ get_or slots.now at 0 }
 {
-    if at < slots.len() { slots[at] } else { 0 }
+    slots.get(at).copied().unwrap_or(0)
 }
 
 // The type's code of a column's slot, 0 where it is none.
@@ -179,12 +176,14 @@ fn put_spot(slots: &mut [u64], next: Spot)
     requires { 6 ≤ length slots.old }
     ensures { slots.new ≡ overwrite slots.old 0 (spot_slots next) }
 {
-    slots[0] = next.place as u64;
-    slots[1] = next.count as u64;
-    slots[2] = next.columns_left as u64;
-    slots[3] = next.cells_left as u64;
-    slots[4] = flag(next.over);
-    slots[5] = next.packet as u64;
+    slots[..FIRST_TYPE].copy_from_slice(&[
+        next.place as u64,
+        next.count as u64,
+        next.columns_left as u64,
+        next.cells_left as u64,
+        u64::from(next.over),
+        next.packet as u64,
+    ]);
 }
 
 // Where a token is a column, its type in its slot, after those of so many columns.
@@ -192,19 +191,12 @@ fn put_type(slots: &mut [u64], columns: usize, token: Token)
     requires { columns ≤ 128 }
     ensures { slots.new ≡ with_type columns token slots.old }
 {
-    match token {
-        Token::Column { code, limit, .. } => {
-            put(
-                slots,
-                FIRST_TYPE + columns,
-                (code as u64) * CODE + limit as u64,
-            );
-        },
-        Token::ColMetadata(_) => {},
-        Token::Row => {},
-        Token::Cell(_) => {},
-        Token::Done { .. } => {},
-        Token::Message { .. } => {},
+    if let Token::Column { code, limit, .. } = token {
+        put(
+            slots,
+            FIRST_TYPE + columns,
+            (code as u64) * CODE + limit as u64,
+        );
     }
 }
 
@@ -335,9 +327,5 @@ fn tell_message(
 pub(crate) fn bits(n: i64) -> u64
     ensures { result ≡ bits_of n }
 {
-    if n >= 0 {
-        n as u64
-    } else {
-        0xFFFF_FFFF_FFFF_FFFF - ((-1 - n) as u64)
-    }
+    n.cast_unsigned()
 }

@@ -41,6 +41,7 @@ pub enum SqlDataType {
 }
 
 // The data type that a script's type byte stands for, where it stands for one.
+#[tactic(auto, unfolding(crate::specs::Types::data_type_of, crate::specs::Types::data_types, crate::specs::Types::data_type_in))]
 pub fn data_type_of(b: u8) -> Option<SqlDataType>
     ensures { result ≡ data_type_of b }
 {
@@ -62,12 +63,9 @@ pub fn tds_type_code(t: SqlDataType) -> u8
     ensures { result ≡ type_code t }
 {
     match t {
-        SqlDataType::TinyInt => 0x26,
-        SqlDataType::SmallInt => 0x26,
-        SqlDataType::Int => 0x26,
-        SqlDataType::BigInt => 0x26,
-        SqlDataType::NVarChar => 0xE7,
-        SqlDataType::NVarCharMax => 0xE7,
+        SqlDataType::TinyInt | SqlDataType::SmallInt | SqlDataType::Int | SqlDataType::BigInt =>
+            0x26,
+        SqlDataType::NVarChar | SqlDataType::NVarCharMax => 0xE7,
         SqlDataType::VarCharMax => 0xA7,
         SqlDataType::VarBinaryMax => 0xA5,
     }
@@ -83,13 +81,12 @@ pub fn max_length(t: SqlDataType) -> u16
         SqlDataType::Int => 4,
         SqlDataType::BigInt => 8,
         SqlDataType::NVarChar => 8000,
-        SqlDataType::NVarCharMax => 0xFFFF,
-        SqlDataType::VarCharMax => 0xFFFF,
-        SqlDataType::VarBinaryMax => 0xFFFF,
+        SqlDataType::NVarCharMax | SqlDataType::VarCharMax | SqlDataType::VarBinaryMax => 0xFFFF,
     }
 }
 
 // In how many bytes a type's length stands.
+#[tactic(auto, unfolding(crate::specs::Types::length_width))]
 pub fn length_width(code: u8) -> u8
     ensures { result ≡ length_width code }
 {
@@ -100,12 +97,12 @@ pub fn length_width(code: u8) -> u8
 }
 
 // How many bytes of collation a type has.
+#[tactic(auto, unfolding(crate::specs::Types::collation_size))]
 pub fn collation_size(code: u8) -> usize
     ensures { result ≡ collation_size code }
 {
     match code {
-        0xE7 => 5,
-        0xA7 => 5,
+        0xE7 | 0xA7 => 5,
         _ => 0,
     }
 }
@@ -126,6 +123,7 @@ pub enum ColumnValue {
 }
 
 // The value that a script's value byte stands for, where it stands for one.
+#[tactic(auto, unfolding(crate::specs::Values::column_value_of, crate::specs::Values::column_values, crate::specs::Values::column_value_in))]
 pub fn column_value_of(b: u8) -> Option<ColumnValue>
     ensures { result ≡ column_value_of b }
 {
@@ -148,6 +146,7 @@ pub fn column_value_of(b: u8) -> Option<ColumnValue>
 pub const MOST_NAME_UNITS: usize = 255;
 
 // Whether a name is not too long, or its refusal.
+#[tactic(auto, unfolding(crate::specs::Names::name_fault))]
 pub fn name_fault(name: &[u8]) -> Result<(), Refusal>
     ensures { refused_by result ≡ name_fault name.now }
 {
@@ -229,6 +228,7 @@ fn put_message_head(buf: &mut [u8], at: usize, size: u16, m: &Message) -> usize
 }
 
 // The length of an ERROR or INFO, modulo 65,536.
+#[tactic(auto, unfolding(crate::specs::Tokens::message_length))]
 fn message_length(text: &[u8], server: &[u8], procedure: &[u8]) -> u16
     ensures { result ≡ message_length text.now server.now procedure.now % 65536 }
 {

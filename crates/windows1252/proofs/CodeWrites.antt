@@ -1,6 +1,8 @@
 -- What writing a label comes to, from what its text is, and the fields of a value. Assumes nothing.
 use mathlib.Core.Path.{◌≡◌, refl, sym, ap, ◌∙◌}
 use mathlib.Core.Bool.{Bool, true, false, cond}
+use mathlib.Core.Logic.{◌≢◌}
+use Rattle.std.specs.Prelude.{Result, Ok, Err}
 use mathlib.Core.List.{List, [], ◌∷◌, ◌++◌, append-nil}
 use Prim.Native.Nat.{ℕ, ◌+◌, ◌*◌, ◌/◌, ◌%◌, ◌≤◌, ◌<◌}
 use native.Mathlib.Omega.{arith}
@@ -17,10 +19,8 @@ use Rattle.wire.proofs.Cases.{by-test, clash}
 use Rattle.text.specs.Units.{units_of}
 use Rattle.text.proofs.Scan.{length-units}
 use Rattle.token.specs.Tokens.{joined, put_chunks}
-use Rattle.windows1252.specs.declared.Written.{Written}
-use Rattle.windows1252.specs.declared.Written.TheVariants as written
 use Rattle.windows1252.specs.Table.{have_bytes, bytes_of}
-use Rattle.windows1252.specs.Labels.{Writing, value, not_written, one_chunk, value_bytes, encoded, written_of, most_characters}
+use Rattle.windows1252.specs.Labels.{Writing, one_chunk, value_bytes, encoded, written_of, most_characters}
 use Rattle.windows1252.specs.Answers.{written_in, value_left}
 use Rattle.windows1252.specs.Code.{fault_by, value_size, chunk_fields}
 use Rattle.windows1252.proofs.Texts.{length-bytes}
@@ -46,7 +46,7 @@ module _ (t : List ℕ) where
     fault-none h l = rw (eq-eqb (length t % 2) 0 e, h, length-units t, le-leb (length t / 2) 65535 l)
 
 -- what no refusal tells
-passed-by : (a b c : Bool) (v : List ℕ) → fault_by (cond a (cond b (cond c (value v) (not_written result_too_long)) (not_written unit_without_byte)) (not_written odd_text)) ≡ 0
+passed-by : (a b c : Bool) (v : List ℕ) → fault_by (cond a (cond b (cond c (Ok v) (Err result_too_long)) (Err unit_without_byte)) (Err odd_text)) ≡ 0
     → (a ≡ true) × (b ≡ true) × (c ≡ true)
 passed-by true true true v e = (refl, refl, refl)
 passed-by true true false v e = clash (omega (arith, e))
@@ -57,7 +57,7 @@ pub record Accepted (t : List ℕ) : Type 0 where
   pub whole : even (length t) ≡ true
   pub have : have_bytes (units_of t) ≡ true
   pub few : length (units_of t) ≤ 65535
-  pub is : written_of t ≡ value (value_bytes (bytes_of (units_of t)))
+  pub is : written_of t ≡ Ok (value_bytes (bytes_of (units_of t)))
 
 pub accepted : (t : List ℕ) → fault_by (written_of t) ≡ 0 → Accepted t
 unfolding written_of encoded
@@ -65,9 +65,9 @@ accepted t e =
     let p = passed-by (even (length t)) (have_bytes (units_of t)) (leb (length (units_of t)) most_characters) (value_bytes (bytes_of (units_of t))) e in
     record { whole = p.0; have = p.1; few = leb-true (length (units_of t)) most_characters p.2; is = rw (p.0, p.1, p.2) }
 
-refused-by : (x : Writing) {n : ℕ} → n ≡ fault_by x → (n ≡ 0 → ⊥) → x ≡ not_written n
-refused-by (value v) e f = absurd (f e)
-refused-by (not_written r) e f = rw e
+not_written : (x : Writing) {n : ℕ} → n ≡ fault_by x → n ≢ 0 → x ≡ Err n
+not_written (Ok v) e f = absurd (f e)
+not_written (Err r) e f = rw e
 
 -- ---- the fields of a value
 
@@ -120,12 +120,12 @@ a-chunk (b ∷ bs) e f = rw (sym e, append-nil (b ∷ bs))
 
 module _ (t buf : List ℕ) where
   -- the answer r with the buffer left
-  abbrev pub Write-ends : Written → List ℕ → Type 0
+  abbrev pub Write-ends : Result ℕ ℕ → List ℕ → Type 0
   Write-ends r left = (r ≡ written_in t (length buf)) × (left ≡ value_left t buf)
 
-  pub ends-refused : {n : ℕ} → n ≡ fault_by (written_of t) → (n ≡ 0 → ⊥) → Write-ends (written.Refused n) buf
+  pub ends-refused : {n : ℕ} → n ≡ fault_by (written_of t) → n ≢ 0 → Write-ends (Err n) buf
   unfolding written_in value_left
-  ends-refused e f = let q = refused-by (written_of t) e f in (rw q, rw q)
+  ends-refused e f = let q = not_written (written_of t) e f in (rw q, rw q)
 
   module _ (e : fault_by (written_of t) ≡ 0) {n : ℕ} (s : n ≡ value_size (length t / 2)) where
     abbrev v : List ℕ
@@ -134,10 +134,10 @@ module _ (t buf : List ℕ) where
     size : length v ≡ n
     size = value-length (bytes_of (units_of t)) ∙ rw (length-bytes (units_of t), length-units t) (sym s)
 
-    pub ends-short : length buf < n → Write-ends (written.Refused buffer_too_short) buf
+    pub ends-short : length buf < n → Write-ends (Err buffer_too_short) buf
     unfolding written_in value_left
     ends-short h = let q = (accepted t e).is in (rw (q, size, lt-ltb (length buf) n h), rw (q, size, lt-ltb (length buf) n h))
 
-    pub ends-value : {left : List ℕ} → n ≤ length buf → left ≡ overwrite buf 0 v → Write-ends (written.Value n) left
+    pub ends-value : {left : List ℕ} → n ≤ length buf → left ≡ overwrite buf 0 v → Write-ends (Ok n) left
     unfolding written_in value_left
     ends-value h w = let q = (accepted t e).is in (rw (q, size, le-ltb (length buf) n h), w ∙ rw (q, size, le-ltb (length buf) n h))

@@ -2,6 +2,7 @@
 -- buffers. Assumes nothing.
 use mathlib.Core.Path.{◌≡◌, refl, sym, ap, ◌∙◌}
 use mathlib.Core.Bool.{true, false}
+use Rattle.std.specs.Prelude.{Some, None, Ok, Err}
 use mathlib.Core.List.{List, [], ◌∷◌, ◌++◌}
 use Prim.Native.Nat.{ℕ, zero, suc, ◌+◌, ◌*◌, ◌/◌, ◌%◌, ◌≤◌, ◌<◌}
 use native.Mathlib.Omega.{arith}
@@ -25,10 +26,8 @@ use Rattle.payload.specs.Places.{body_source}
 use Rattle.payload.proofs.Standing.{At}
 use Rattle.cells.specs.Values.{chunk_bytes, joined_from}
 use Rattle.cells.proofs.Chunks.{ChunksOk, joined_at, past-chunks, past_is, max-at}
-use Rattle.windows1252.specs.declared.Label.TheVariants as label
-use Rattle.windows1252.specs.declared.Written.TheVariants as written
 use Rattle.windows1252.specs.Table.{unit_of, byte_of, has_byte, have_bytes, bytes_of, text_of}
-use Rattle.windows1252.specs.Labels.{Reading, text, null, not_read, chunks_joined, shown, read_of, Writing, value, not_written, one_chunk, value_bytes, encoded, written_of, most_characters}
+use Rattle.windows1252.specs.Labels.{Reading, chunks_joined, shown, read_of, Writing, one_chunk, value_bytes, encoded, written_of, most_characters}
 use Rattle.windows1252.specs.Answers.{read_with, buffer_with, read_in, text_left, written_with, buffer_after, written_in, value_left}
 use Rattle.windows1252.specs.Kept.{WriteRead, ReadWrite, WrittenRead, ReadWritten}
 use Rattle.windows1252.proofs.Table.{unit-small, byte-of-unit, unit-of-byte}
@@ -78,7 +77,7 @@ text-back (a ∷ []) h e g = clash (let q = eqb-true 1 0 e in omega arith)
 text-back (a ∷ b ∷ t) h e g =
     let u = le_at 2 (a ∷ b ∷ []) in
     let has = have-both u (units_of t) g in
-    text-first u (units_of t) has.0
+    text-first u (units_of t) (unit-of-byte u has.0).0
     ∙ rw (unit-bytes a b h.0 h.1.0) (ap (λ (l : List ℕ). a ∷ b ∷ l) (text-back t h.1.1 (two-less (length t) e) has.1))
 
 -- ---- a value of one chunk
@@ -109,7 +108,7 @@ module _ (bs : List ℕ) (few : length bs ≤ 65535) where
       rw (drop_at (le 8 (length (joined cs))) (flat (put_chunks cs [])) 8 (length-le 8 (length (joined cs))))
       (joined_at (length v) false cs [] (omega (arith, one-most bs, small.0)) (omega (arith, ap length (joined-one bs))) (one_ok bs) ∙ joined-one bs)
 
-  pub value_read : read_of v ≡ text (text_of bs)
+  pub value_read : read_of v ≡ Ok (Some (text_of bs))
   unfolding shown
   value_read =
       let small = value-small bs in
@@ -138,10 +137,10 @@ write_read t v b e =
     let ok = accepted t (rw e) in
     let us = units_of t in
     let same : v ≡ value_bytes (bytes_of us) = let q = sym e ∙ ok.is in cc in
-    rw same (value_read (bytes_of us) (omega (arith, ok.few, length-bytes us)) ∙ ap text (text-back t b ok.whole ok.have))
+    rw same (value_read (bytes_of us) (omega (arith, ok.few, length-bytes us)) ∙ ap (λ (l : List ℕ). Ok (Some l)) (text-back t b ok.whole ok.have))
 
 -- what is written of a text that was read
-pub text-written : (bs : List ℕ) → Bytes bs → length bs ≤ 65535 → written_of (text_of bs) ≡ value (value_bytes bs)
+pub text-written : (bs : List ℕ) → Bytes bs → length bs ≤ 65535 → written_of (text_of bs) ≡ Ok (value_bytes bs)
 unfolding written_of encoded
 text-written bs b few =
     let w = units-back bs b in
@@ -162,32 +161,32 @@ front : (x buf : List ℕ) → length x ≤ length buf → take (length x) (over
 front x buf h = rw (over-eq x buf 0 (omega arith)) (take_at x (drop (0 + length x) buf) (length x) refl)
 
 -- what an answer tells of a text that was written, and of a value that was read
-value-told : (x : Writing) (buf : List ℕ) {n : ℕ} → written_with x (length buf) ≡ written.Value n
-    → (v : List ℕ) × (x ≡ value v) × (length v ≡ n) × (take n (buffer_after x buf) ≡ v)
-value-told (value v) buf {n} e =
+value-told : (x : Writing) (buf : List ℕ) {n : ℕ} → written_with x (length buf) ≡ Ok n
+    → (v : List ℕ) × (x ≡ Ok v) × (length v ≡ n) × (take n (buffer_after x buf) ≡ v)
+value-told (Ok v) buf {n} e =
     split (length v) (length buf)
     (λ h. let q = rw (le-ltb (length buf) (length v) h) at e in let long : length v ≡ n = cc in
     (v, refl, long, rw (le-ltb (length buf) (length v) h, ← long) (front v buf h)))
     (λ h. let q = rw (lt-ltb (length buf) (length v) h) at e in clash (cc))
-value-told (not_written r) buf e = clash (cc)
+value-told (Err r) buf e = clash (cc)
 
-text-told : (x : Reading) (buf : List ℕ) {n : ℕ} → read_with x (length buf) ≡ label.Text n
-    → (t : List ℕ) × (x ≡ text t) × (length t ≡ n) × (take n (buffer_with x buf) ≡ t)
-text-told (text t) buf {n} e =
+text-told : (x : Reading) (buf : List ℕ) {n : ℕ} → read_with x (length buf) ≡ Ok (Some n)
+    → (t : List ℕ) × (x ≡ Ok (Some t)) × (length t ≡ n) × (take n (buffer_with x buf) ≡ t)
+text-told (Ok (Some t)) buf {n} e =
     split (length t) (length buf)
     (λ h. let q = rw (le-ltb (length buf) (length t) h) at e in let long : length t ≡ n = cc in
     (t, refl, long, rw (le-ltb (length buf) (length t) h, ← long) (front t buf h)))
     (λ h. let q = rw (lt-ltb (length buf) (length t) h) at e in clash (cc))
-text-told null buf e = clash (cc)
-text-told (not_read r) buf e = clash (cc)
+text-told (Ok None) buf e = clash (cc)
+text-told (Err r) buf e = clash (cc)
 
 -- where there is room
-text-fits : (v t buf : List ℕ) → read_of v ≡ text t → length t ≤ length buf → (read_in v (length buf) ≡ label.Text (length t)) × (take (length t) (text_left v buf) ≡ t)
+text-fits : (v t buf : List ℕ) → read_of v ≡ Ok (Some t) → length t ≤ length buf → (read_in v (length buf) ≡ Ok (Some (length t))) × (take (length t) (text_left v buf) ≡ t)
 unfolding read_in text_left
 text-fits v t buf e h = (rw (e, le-ltb (length buf) (length t) h), rw (e, le-ltb (length buf) (length t) h) (front t buf h))
 
-value-fits : (t v buf : List ℕ) → written_of t ≡ value v → length v ≤ length buf
-    → (written_in t (length buf) ≡ written.Value (length v)) × (take (length v) (value_left t buf) ≡ v)
+value-fits : (t v buf : List ℕ) → written_of t ≡ Ok v → length v ≤ length buf
+    → (written_in t (length buf) ≡ Ok (length v)) × (take (length v) (value_left t buf) ≡ v)
 unfolding written_in value_left
 value-fits t v buf e h = (rw (e, le-ltb (length buf) (length v) h), rw (e, le-ltb (length buf) (length v) h) (front v buf h))
 
@@ -207,6 +206,6 @@ read-written v panel buf n b e h =
     let w = text-told (read_of v) panel e in
     let r = read-text v w.1 in
     let bs = chunks_joined v in
-    let is : written_of w.0 ≡ value (value_bytes bs) = rw r.0 (text-written bs (bytes-joined v b) r.1) in
+    let is : written_of w.0 ≡ Ok (value_bytes bs) = rw r.0 (text-written bs (bytes-joined v b) r.1) in
     let f = value-fits w.0 (value_bytes bs) buf is (omega (arith, value-most bs r.1, h)) in
     (length (value_bytes bs), rw w.3 f.0, rw (w.3, f.1) (joined-value bs r.1))

@@ -2,17 +2,20 @@
 use mathlib.Core.Path.{◌≡◌, refl, sym, ap, ◌∙◌}
 use mathlib.Core.Bool.{Bool, true, false, not, ◌&&◌, ◌||◌}
 use mathlib.Core.List.{List}
-use Prim.Native.Nat.{ℕ, ◌+◌, ◌<◌, ◌≤◌}
+use mathlib.Core.Logic.{◌≢◌}
+use Rattle.std.specs.Prelude.{Option, Some, None}
+use Rattle.std.specs.Option.{MatchOption, is_some}
+use Prim.Native.Nat.{ℕ, ◌<◌, ◌≤◌}
 use native.Mathlib.Omega.{arith}
-use borrow.Author.Tests.{eq-eqb, ne_eqb, eqb-true, ltb-true, lt-ltb, le-ltb, le-leb, lt-leb}
+use borrow.Author.Tests.{ne_eqb, eqb-true, ltb-true, lt-ltb, le-ltb, le-leb, lt-leb}
 use lib.Dec.{eqb, ltb, leb}
 use lib.ListN.{length, get_or}
 use Rattle.wire.proofs.Cases.{split, by-test, clash}
 use Rattle.payload.proofs.CodeReads.{and-true}
 use Rattle.windows1252.specs.Table.{table, unit_of, place_of, byte_of, has_byte}
-use Rattle.windows1252.specs.Code.{is_itself}
+use Rattle.windows1252.specs.Code.{is_itself, byte_found}
 use Rattle.windows1252.specs.Kept.{Distinct}
-use Rattle.windows1252.proofs.Places.{every, every-at, distinct, place-of-entry, one_place, found, no_place, place-most}
+use Rattle.windows1252.proofs.Places.{every, every-at, distinct, place-of-entry, one_place, found, no_place}
 
 all-entries : length table ≡ 256
 unfolding table
@@ -64,16 +67,14 @@ unit-of-byte u e =
     let h : place_of u table < 256 = ltb-true (place_of u table) 256 e in
     (h, found u table (omega (arith, all-entries)))
 
--- a unit whose byte is not 256 has one
-pub has-by : (u : ℕ) → not (eqb (byte_of u) 256) ≡ has_byte u
-unfolding has_byte byte_of
-has-by u =
-    by-test (eqb (place_of u table) 256)
-    (λ t. rw (eqb-true (place_of u table) 256 t))
-    (λ t. let e = lt-ltb (place_of u table) 256 (omega (arith, place-most u table, all-entries, not_equal t)) in rw (t, e))
-  where
-    not_equal : eqb (place_of u table) 256 ≡ false → place_of u table ≡ 256 → ⊥
-    not_equal t q = clash (let z : eqb (place_of u table) 256 ≡ true = eq-eqb (place_of u table) 256 q in cc)
+-- what is found of a unit that has a byte, and that no other has one
+pub found_has : (u : ℕ) → has_byte u ≡ true → byte_found u ≡ Some (byte_of u)
+unfolding byte_found
+found_has u e = rw e
+
+pub has-found : (u : ℕ) → is_some (byte_found u) ≡ has_byte u
+unfolding byte_found
+has-found u = by-test (has_byte u) (λ t. rw t) (λ t. rw t)
 
 -- a unit that stands for no byte
 pub no_byte : (u : ℕ) → ((b : ℕ) → b < 256 → eqb (unit_of b) u ≡ false) → byte_of u ≡ 256
@@ -116,7 +117,13 @@ searched u e f = no_byte u (λ k h. by-test (is_itself k)
     (λ t. ne_eqb (unit_of k) u (λ q. let p : is_itself u ≡ true = ap is_itself (sym q ∙ itself k h t) ∙ t in clash (cc)))
     (λ t. let l = between k h t in f k l.0 l.1))
 
--- one byte more does not
-pub not_yet : (u b : ℕ) → ((k : ℕ) → 0x80 ≤ k → k < b → eqb (unit_of k) u ≡ false) → eqb (unit_of b) u ≡ false
-    → (k : ℕ) → 0x80 ≤ k → k < b + 1 → eqb (unit_of k) u ≡ false
-not_yet u b f e k l h = split b k (λ g. let q : k ≡ b = omega arith in rw q e) (λ g. f k l g)
+-- what the search over those bytes finds
+pub byte-searched : (u : ℕ) (r : Option ℕ) → is_itself u ≡ false
+    → MatchOption r ((k : ℕ) → 0x80 ≤ k → k < 0xA0 → unit_of k ≢ u) (λ b. (0x80 ≤ b) × (b < 0xA0) × (unit_of b ≡ u) × ((k : ℕ) → 0x80 ≤ k → k < b → unit_of k ≢ u))
+    → r ≡ byte_found u
+unfolding byte_found has_byte
+byte-searched u None e f = rw (searched u e (λ k h g. ne_eqb (unit_of k) u (f k h g)))
+byte-searched u (Some b) e f =
+    let small : b < 256 = omega (arith, f.1) in
+    let is : byte_of u ≡ b = ap byte_of (sym f.2) ∙ byte-of-unit b small in
+    rw (is, lt-ltb b 256 small)

@@ -1,10 +1,7 @@
 // The characters of Windows-1252, as UTF-16 units, and the bytes that stand for them.
-ghost use Rattle.std.specs.Prelude.{◌≡◌, false};
+ghost use Rattle.std.specs.Prelude.{◌≡◌, true, false};
 ghost use Rattle.windows1252.specs.Table.{table, unit_of, byte_of, has_byte};
-ghost use Rattle.windows1252.specs.Code.{is_itself};
-
-// The place of a unit that does not stand in the table.
-const NO_ENTRY: u16 = 256;
+ghost use Rattle.windows1252.specs.Code.{is_itself, byte_found};
 
 // The character of each byte, as a UTF-16 unit: the WHATWG Encoding Standard's index windows-1252 from 80 on, ASCII below.
 pub(crate) const TABLE: [u16; 256] = [
@@ -42,15 +39,16 @@ pub(crate) fn unit_of(units: &[u16], b: u8) -> u16
     units[b as usize]
 }
 
-// The byte that stands for a unit, or NO_ENTRY.
-pub(crate) fn byte_of(units: &[u16], u: u16) -> u16
-    requires { units.now ≡ table }
+// The byte that stands for a unit that has one.
+pub(crate) fn byte_of(units: &[u16], u: u16) -> u8
+    requires units_value { units.now ≡ table }
+    requires u_value { has_byte u ≡ true }
     ensures { result ≡ byte_of u }
 {
     if is_itself(u) {
-        return u;
+        return u as u8;
     }
-    find(units, u)
+    find(units, u).unwrap()
 }
 
 // Whether a byte stands for a unit.
@@ -61,7 +59,7 @@ pub(crate) fn has_byte(units: &[u16], u: u16) -> bool
     if is_itself(u) {
         return true;
     }
-    find(units, u) != NO_ENTRY
+    find(units, u).is_some()
 }
 
 // Whether a unit is its own byte: below 80, and from A0 to FF.
@@ -71,18 +69,13 @@ fn is_itself(u: u16) -> bool
     (u < 0x80) | ((0xa0 <= u) & (u <= 0xff))
 }
 
-// The byte of a unit that is not its own: one of 80 to 9F, searched in their order, so that 9F takes 32 turns.
-fn find(units: &[u16], u: u16) -> u16
+// The byte of a unit that is not its own, if it has one: one of 80 to 9F, searched in their order, so that 9F takes 32 turns.
+// It stays a call of its own: the loops over a text are small without it, and most units are their own bytes.
+#[inline(never)]
+fn find(units: &[u16], u: u16) -> Option<u8>
     requires units_value { units.now ≡ table }
     requires u_value { is_itself u ≡ false }
-    ensures { result ≡ byte_of u }
+    ensures { result ≡ byte_found u }
 {
-    let mut b: u16 = 0x80;
-    while b < 0xa0 {
-        if unit_of(units, b as u8) == u {
-            return b;
-        }
-        b += 1;
-    }
-    NO_ENTRY
+    (0x80..0xa0).find(|b| unit_of(units, *b) == u)
 }

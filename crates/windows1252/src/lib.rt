@@ -1,23 +1,25 @@
 // Event labels (document 02, 2026-07): VARCHAR(MAX) values in Windows-1252, a total and chunks, read to UTF-16LE, and such
-// text written as a value. Any bytes are answered; a refusal is its number in document 01 or 02, and leaves the lent buffer.
+// text written as a value. Any bytes are answered; a refusal leaves the lent buffer.
 #![tactic(auto)]
 
 mod characters;
 
 ghost use Rattle.std.specs.Prelude.{◌≡◌, true, ◌+◌, ◌*◌, ◌≤◌, ◌<◌, length};
 ghost use Rattle.wire.specs.Over.{overwrite, PlaceAfter};
+ghost use Rattle.wire.specs.Le.{le_at};
 ghost use Rattle.wire.specs.Fields.{flat};
+ghost use Rattle.refusals.specs.Refused.{numbered, refused_by};
 ghost use Rattle.text.specs.Units.{units_of};
 ghost use Rattle.windows1252.specs.Table.{table, have_bytes, bytes_of, text_of};
 ghost use Rattle.windows1252.specs.Labels.{chunks_joined, read_of, value_bytes, written_of};
 ghost use Rattle.windows1252.specs.Answers.{size_of, read_in, text_left, written_in, value_left};
 ghost use Rattle.windows1252.specs.Code.{null_at, text_at, fault_by, value_size, chunk_fields};
 
-use cells::{ChunksRead, NULL_TOTAL, UNKNOWN_TOTAL, chunks_at};
+use cells::{NULL_TOTAL, UNKNOWN_TOTAL, chunks_at};
 use characters::{TABLE, byte_of, has_byte, unit_of};
 use payload::frames::body;
-use payload::{NumberRead, u64_at};
-use refusals::{BUFFER_TOO_SHORT, INNER_WRONG, NONE, ODD_TEXT, RESULT_TOO_LONG, UNIT_WITHOUT_BYTE};
+use payload::u64_at;
+use refusals::Refusal;
 use wire::Part;
 
 // The most characters of a label.
@@ -26,81 +28,58 @@ const MOST_CHARACTERS: usize = 65535;
 // The bytes of a total, which chunks follow.
 const TOTAL_SIZE: usize = 8;
 
-// What reading answers: how many bytes of text were written, that the value is null, or a refusal.
-#[derive(Clone, Copy)]
-pub enum Label {
-    Text(usize),
-    Null,
-    Refused(u8),
-}
-
-// What writing answers: how many bytes of a value were written, or a refusal.
-#[derive(Clone, Copy)]
-pub enum Written {
-    Value(usize),
-    Refused(u8),
-}
-
 // ---- reading
 
-// A value's text as UTF-16LE at the buffer's front: 24, 26, 17, then 20.
-pub fn read_value(value: &[u8], buf: &mut [u8]) -> Label
-    ensures value { result ≡ read_in value.now (length buf.old) }
+// A value's text as UTF-16LE at the buffer's front, and how many bytes it has; none where the value is null. 24, 26, 17, then 20.
+pub fn read_value(value: &[u8], buf: &mut [u8]) -> Result<Option<usize>, Refusal>
+    ensures value { numbered result ≡ read_in value.now (length buf.old) }
     ensures buf_after { buf.new ≡ text_left value.now buf.old }
 {
-    match measured(value) {
-        Label::Refused(n) => Label::Refused(n),
-        Label::Null => Label::Null,
-        Label::Text(size) => {
-            if buf.len() < size {
-                return Label::Refused(BUFFER_TOO_SHORT);
-            }
-            put_text(value, buf);
-            Label::Text(size)
-        }
+    let Some(size) = measured(value)? else {
+        return Ok(None);
+    };
+    if buf.len() < size {
+        return Err(Refusal::BufferTooShort);
     }
+    put_text(value, buf);
+    Ok(Some(size))
 }
 
 // What reading answers where there is room: one walk over the chunks' lengths, before anything is written.
-fn measured(value: &[u8]) -> Label
-    ensures { result ≡ size_of (read_of value.now) }
+fn measured(value: &[u8]) -> Result<Option<usize>, Refusal>
+    ensures { numbered result ≡ size_of (read_of value.now) }
 {
     let frame = body(value);
-    let total = match u64_at(value, frame, 0) {
-        NumberRead::Refused(n) => return Label::Refused(n),
-        NumberRead::Whole(n) => n,
-    };
+    let total = u64_at(value, frame, 0)?;
     if total.value == NULL_TOTAL {
         return null_at(value, total.next);
     }
     let known = total.value != UNKNOWN_TOTAL;
-    match chunks_at(value, frame, total.next, false, known, total.value as usize) {
-        ChunksRead::Refused(n) => Label::Refused(n),
-        ChunksRead::Whole(chunks) => text_at(value, chunks.next, chunks.count),
-    }
+    let chunks = chunks_at(value, frame, total.next, false, known, total.value as usize)?;
+    text_at(value, chunks.next, chunks.count)
 }
 
 // Null, where nothing follows it.
-fn null_at(value: &[u8], next: usize) -> Label
-    ensures { result ≡ null_at (length value.now) next }
+fn null_at(value: &[u8], next: usize) -> Result<Option<usize>, Refusal>
+    ensures { numbered result ≡ null_at (length value.now) next }
 {
     if next != value.len() {
-        return Label::Refused(INNER_WRONG);
+        return Err(Refusal::InnerWrong);
     }
-    Label::Null
+    Ok(None)
 }
 
 // A text of so many characters, where nothing follows its chunks.
-fn text_at(value: &[u8], next: usize, count: usize) -> Label
-    ensures { result ≡ text_at (length value.now) next count }
+fn text_at(value: &[u8], next: usize, count: usize) -> Result<Option<usize>, Refusal>
+    ensures { numbered result ≡ text_at (length value.now) next count }
 {
     if next != value.len() {
-        return Label::Refused(INNER_WRONG);
+        return Err(Refusal::InnerWrong);
     }
     if MOST_CHARACTERS < count {
-        return Label::Refused(RESULT_TOO_LONG);
+        return Err(Refusal::ResultTooLong);
     }
-    Label::Text(2 * count)
+    Ok(Some(2 * count))
 }
 
 // The text of a value's chunks at the buffer's front.
@@ -129,14 +108,12 @@ fn put_characters(units: &[u16], bytes: &[u8], buf: &mut [u8], at: usize) -> usi
     ensures value { result ≡ at + 2 * length bytes.now }
     ensures buf_after { buf.new ≡ overwrite buf.old at (text_of bytes.now) }
 {
-    let mut i = 0;
     let mut to = at;
-    while i < bytes.len() {
-        let unit = unit_of(units, bytes[i]);
-        buf[to] = (unit % 256) as u8;
-        buf[to + 1] = (unit / 256) as u8;
+    for byte in bytes {
+        let [low, high] = unit_of(units, *byte).to_le_bytes();
+        buf[to] = low;
+        buf[to + 1] = high;
         to += 2;
-        i += 1;
     }
     to
 }
@@ -144,36 +121,33 @@ fn put_characters(units: &[u16], bytes: &[u8], buf: &mut [u8], at: usize) -> usi
 // ---- writing
 
 // A text of UTF-16LE as a value at the buffer's front, of known total and one chunk, or none where it is empty: 21, 36, 17, then 20.
-pub fn write_value(text: &[u8], buf: &mut [u8]) -> Written
-    ensures value { result ≡ written_in text.now (length buf.old) }
+pub fn write_value(text: &[u8], buf: &mut [u8]) -> Result<usize, Refusal>
+    ensures value { numbered result ≡ written_in text.now (length buf.old) }
     ensures buf_after { buf.new ≡ value_left text.now buf.old }
 {
-    let fault = fault_of(text);
-    if fault != NONE {
-        return Written::Refused(fault);
-    }
+    fault_of(text)?;
     let size = value_size(text.len() / 2);
     if buf.len() < size {
-        return Written::Refused(BUFFER_TOO_SHORT);
+        return Err(Refusal::BufferTooShort);
     }
     put_value(text, buf);
-    Written::Value(size)
+    Ok(size)
 }
 
-// The refusal of a text, or none.
-fn fault_of(text: &[u8]) -> u8
-    ensures { result ≡ fault_by (written_of text.now) }
+// Whether a text is refused.
+fn fault_of(text: &[u8]) -> Result<(), Refusal>
+    ensures { refused_by result ≡ fault_by (written_of text.now) }
 {
     if text.len() % 2 != 0 {
-        return ODD_TEXT;
+        return Err(Refusal::OddText);
     }
     if !have_bytes(text) {
-        return UNIT_WITHOUT_BYTE;
+        return Err(Refusal::UnitWithoutByte);
     }
     if MOST_CHARACTERS < text.len() / 2 {
-        return RESULT_TOO_LONG;
+        return Err(Refusal::ResultTooLong);
     }
-    NONE
+    Ok(())
 }
 
 // Whether each unit of a text has a byte.
@@ -181,16 +155,8 @@ fn have_bytes(text: &[u8]) -> bool
     ensures { result ≡ have_bytes (units_of text.now) }
 {
     let units = TABLE;
-    let mut at: usize = 0;
-    while at + 1 < text.len() {
-        let next = at + 2;
-        let unit = wire::u16_from_le_bytes(text[at], text[at + 1]);
-        if !has_byte(&units, unit) {
-            return false;
-        }
-        at = next;
-    }
-    true
+    let (pairs, _) = text.as_chunks::<2>();
+    pairs.iter().all(|pair| has_byte(&units, unit_in(pair)))
 }
 
 // The bytes of a value of n characters.
@@ -235,13 +201,18 @@ fn put_bytes(text: &[u8], buf: &mut [u8], at: usize) -> usize
     ensures place_after { PlaceAfter buf.old at (bytes_of (units_of text.now)) result }
 {
     let units = TABLE;
-    let mut from: usize = 0;
+    let (pairs, _) = text.as_chunks::<2>();
     let mut to = at;
-    while from + 1 < text.len() {
-        let unit = wire::u16_from_le_bytes(text[from], text[from + 1]);
-        buf[to] = byte_of(&units, unit) as u8;
+    for pair in pairs {
+        buf[to] = byte_of(&units, unit_in(pair));
         to += 1;
-        from += 2;
     }
     to
+}
+
+// The unit that two bytes are.
+fn unit_in(pair: &[u8; 2]) -> u16
+    ensures { result ≡ le_at 2 pair.now }
+{
+    u16::from_le_bytes(*pair)
 }

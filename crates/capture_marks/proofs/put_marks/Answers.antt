@@ -1,18 +1,17 @@
 -- `capture_marks::put_marks` meets its contract. The loop's invariant is `Marking`. Assumes nothing.
 use mathlib.Core.Path.{sym, ◌∙◌}
 use native.Mathlib.Omega.{arith}
-use borrow.Enum.Refused.{opened}
 use Rattle.script.proofs.Walk
-use Rattle.script.proofs.Stops.{stops}
+use Rattle.script.proofs.Stops.{no_record}
 use Rattle.capture_marks.proofs.Marking.{marking-start, marking-all, marking-cut, marking-end, marking-room, marking-next}
 use Rattle.capture_marks.proofs.put_marks.Goals as goal
 
 pub loop-count-init : goal.loop-count-init
 loop-count-init c = marking-start _ _
 
-pub returns-in-Cut : goal.returns-in-Cut
-returns-in-Cut c = let m = c.loop-count.invariant in
-    stops c.record_at.ensures (opened c.in-Cut.in-Cut-own.keys1) (marking-cut _ _ _ _ _ _ m) (marking-end _ _ _ _ _ _ m)
+pub returns-in_default : goal.returns-in_default
+returns-in_default c = let m = c.loop-count.invariant in
+    no_record c.record_at.ensures c.in_default.not-Record (marking-cut _ _ _ _ _ _ m) (marking-end _ _ _ _ _ _ m)
 
 pub overflow_add-at : goal.overflow_add-at
 overflow_add-at c = omega (arith, (Walk.lies c.args.capture.now c.loop-count.at (sym c.record_at.ensures ∙ c.in-Record.is)))

@@ -1,4 +1,5 @@
 -- `cells::integer_number_at` meets its contract. Assumes nothing.
+use native.Mathlib.Omega.{arith}
 use Rattle.cells.proofs.CodeTypes.{width-last}
 use Rattle.cells.proofs.integer_number_at.Goals as goal
 
@@ -12,5 +13,5 @@ pub returns-in-4 : goal.returns-in-4
 returns-in-4 c = rw c.in-4.is c.u32_at.ensures
 
 pub returns-in_default : goal.returns-in_default
-returns-in_default c = let m = c.in_default.in_default-own.rest in
-    rw (width-last c.args.width c.requires m.0.0.1 m.0.1 m.1) c.u64_at.ensures
+returns-in_default c =
+    rw (width-last c.args.width c.requires (λ e. absurd (omega arith)) (λ e. absurd (omega arith)) (λ e. absurd (omega arith))) c.u64_at.ensures

@@ -1,28 +1,29 @@
 -- `cells::signed_number` meets its contract. Assumes nothing.
 use mathlib.Core.Path.{refl, ◌∙◌}
 use native.Mathlib.Omega.{arith}
+use mir.Syntax.{w16, w32, w64}
+use mir.Facts.{to_z-of_z}
 use Rattle.cells.proofs.CodeSigns.{one_byte, wider}
 use Rattle.cells.proofs.CodeTypes.{width-last}
-use borrow.Author.Rules.{rules}
 use Rattle.cells.proofs.signed_number.Goals as goal
-
-pub overflow_cast-result : goal.overflow_cast-result
-overflow_cast-result c = let h = rw c.in-1.is at c.requires.1 in search rules
-
-pub with_sign-requires : goal.with_sign-requires
-with_sign-requires c = let h = rw c.in-2.is at c.requires.1 in search rules
-
-pub with_sign-requires-in-4 : goal.with_sign-requires-in-4
-with_sign-requires-in-4 c = let h = rw c.in-4.is at c.requires.1 in search rules
 
 pub returns-in-1 : goal.returns-in-1
 returns-in-1 c = let h = rw c.in-1.is at c.requires.1 in rw c.in-1.is (one_byte c.args.n (omega arith))
 
 pub returns-in-2 : goal.returns-in-2
-returns-in-2 c = rw c.in-2.is ((search rules ∙ c.with_sign.ensures) ∙ wider 2 0x8000 c.args.n (λ q. absurd (omega arith)) refl)
+returns-in-2 c =
+    let m = c.cast_signed.type_inv in
+    rw (c.in-2.is, to_z-of_z {w = w16} (record { sfits = m }))
+    (to_z-of_z {w = w64} (record { sfits = omega arith }) ∙ c.cast_signed.ensures ∙ wider w16 2 c.args.n (λ q. absurd (omega arith)) refl refl)
 
 pub returns-in-4 : goal.returns-in-4
-returns-in-4 c = rw c.in-4.is ((search rules ∙ c.with_sign-in-4.ensures) ∙ wider 4 0x80000000 c.args.n (λ q. absurd (omega arith)) refl)
+returns-in-4 c =
+    let m = c.cast_signed-in-4.type_inv in
+    rw (c.in-4.is, to_z-of_z {w = w32} (record { sfits = m }))
+    (to_z-of_z {w = w64} (record { sfits = omega arith }) ∙ c.cast_signed-in-4.ensures ∙ wider w32 4 c.args.n (λ q. absurd (omega arith)) refl refl)
 
 pub returns-in_default : goal.returns-in_default
-returns-in_default c = rw (width-last c.args.width c.requires.0 c.in_default.in_default-own.rest.0.0.1 c.in_default.in_default-own.rest.0.1 c.in_default.in_default-own.rest.1) ((search rules ∙ c.with_sign-in_default.ensures) ∙ wider 8 0x8000000000000000 c.args.n (λ q. absurd (omega arith)) refl)
+returns-in_default c =
+    rw (width-last c.args.width c.requires.0 (λ e. absurd (omega arith)) (λ e. absurd (omega arith)) (λ e. absurd (omega arith)))
+    (to_z-of_z {w = w64} (record { sfits = c.cast_signed-in_default.type_inv }) ∙ c.cast_signed-in_default.ensures
+    ∙ wider w64 8 c.args.n (λ q. absurd (omega arith)) refl refl)

@@ -1,8 +1,7 @@
 -- `emission::error_in` meets its contract. The loop's invariant: the error of the records from `place` on is that from `at` on.
 -- Assumes nothing.
-use borrow.Enum.Refused.{opened}
 use Rattle.script.proofs.Walk
-use Rattle.script.proofs.Stops.{stops}
+use Rattle.script.proofs.Stops.{no_record}
 use Rattle.emission.proofs.Walks.{error-here, error-none, error-later, error-cut, error-end}
 use mathlib.Core.Path.{refl, sym, ◌∙◌}
 use native.Mathlib.Omega.{arith}
@@ -32,8 +31,8 @@ loop-k-preserved c = let e = error-later c.args.s.now _ c.loop-k.place c.in-Reco
     let i = c.loop-k.invariant in
     (sym e.0 ∙ i.0, sym e.1 ∙ i.1)
 
-pub returns-in-Cut : goal.returns-in-Cut
-returns-in-Cut c = let a = c.args in
+pub returns-in_default : goal.returns-in_default
+returns-in_default c = let a = c.args in
     let l = c.loop-k in
-    let e = stops c.record_at.ensures (opened c.in-Cut.in-Cut-own.keys2) (error-cut a.s.now a.kind l.place) (error-end a.s.now a.kind l.place) in
+    let e = no_record c.record_at.ensures c.in_default.not-Record (error-cut a.s.now a.kind l.place) (error-end a.s.now a.kind l.place) in
     record { value = sym e.0 ∙ l.invariant.0; result_value = sym e.1 ∙ l.invariant.1 }

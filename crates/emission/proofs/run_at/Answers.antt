@@ -1,12 +1,11 @@
 -- `emission::run_at` meets its contract. Assumes nothing.
 use lib.ListN.{length-take, drop}
-use borrow.Enum.Refused.{opened}
 use Rattle.emission.specs.Inner.{longer_run}
 use Rattle.script.specs.declared.Found.TheVariants.{Record}
 use Rattle.script.specs.Records.{record_at}
 use Rattle.script.proofs.Walk
 use Rattle.emission.specs.Runs.{NumberedRun, numbered_run}
-use Rattle.script.proofs.Stops.{stops}
+use Rattle.script.proofs.Stops.{no_record}
 use Rattle.emission.proofs.Aheads.{reached-start, reached-next, none_left, ahead-other, ahead-cut, ahead-end}
 use Prim.Native.Nat.{ℕ, ◌+◌, ◌-◌}
 use mathlib.Core.Path.{◌≡◌, sym, ap, ◌∙◌}
@@ -44,8 +43,8 @@ loop-k-preserved c = let k = c.args.kind in
     let e : record_at c.args.s.now c.loop-k.run.next ≡ Record k c.in-Record.start c.in-Record.len = (sym c.record_at.ensures ∙ c.in-Record.is) ∙ ap (λ (j : ℕ). Record j c.in-Record.start c.in-Record.len) c.if-k-kind.false in
     rw c.longer-run.ensures (reached-next c.args.s.now _ k (numbered_run c.loop-k.run) c.in-Record.start c.in-Record.len e c.loop-k.invariant)
 
-pub returns-in-Cut : goal.returns-in-Cut
-returns-in-Cut c = let s = c.args.s.now in
+pub returns-in_default : goal.returns-in_default
+returns-in_default c = let s = c.args.s.now in
     let run = c.loop-k.run in
-    let e = stops c.record_at.ensures (opened c.in-Cut.in-Cut-own.keys2) (ahead-cut s run.next _) (ahead-end s run.next _) in
+    let e = no_record c.record_at.ensures c.in_default.not-Record (ahead-cut s run.next _) (ahead-end s run.next _) in
     none_left s _ _ (numbered_run run) e c.loop-k.invariant

@@ -1,9 +1,8 @@
 -- `emission::sizes_from` meets its contract. Assumes nothing.
 use Rattle.std.proofs.lemmas.Result.{err_from_is_err_and}
-use borrow.Enum.Refused.{opened}
 use Rattle.script.proofs.Walk
 use Rattle.emission.proofs.Sizes.{cap-small}
-use Rattle.script.proofs.Stops.{stops}
+use Rattle.script.proofs.Stops.{no_record}
 use Rattle.emission.proofs.Walks.{left-bad, left-fault, left-size, left_cut, left_end, end-fault, end-size}
 use mathlib.Core.Path.{refl, sym, ◌∙◌}
 use native.Mathlib.Omega.{arith}
@@ -24,21 +23,21 @@ slice_bounds-turn_at-end c = omega (arith, (Walk.lies c.args.s.now c.loop-kind.p
 pub turn_at-requires : goal.turn_at-requires
 turn_at-requires c = (Walk.lies c.args.s.now c.loop-kind.place (sym c.record_at.ensures ∙ c.in-Record.is)).1
 
-pub returns-in_err-turn-in-Record : goal.returns-in_err-turn-in-Record
-returns-in_err-turn-in-Record c =
+pub returns-in_err-turn : goal.returns-in_err-turn
+returns-in_err-turn c =
     let p = err_from_is_err_and c.from_residual.result c.from_residual.ensures.1 in
-    let r = c.in_err-turn-in-Record.field-0.0 in
-    let e = left-bad c.args.s.now c.loop-kind.place _ c.in-Record.start c.in-Record.len (sym c.record_at.ensures ∙ c.in-Record.is) r c.in_err-turn-in-Record.ensures in
+    let r = c.in_err-turn.field-0.0 in
+    let e = left-bad c.args.s.now c.loop-kind.place _ c.in-Record.start c.in-Record.len (sym c.record_at.ensures ∙ c.in-Record.is) r c.in_err-turn.ensures in
     rw (p.1, p.2) (record { fault = sym e ∙ c.loop-kind.invariant.1; size = tt })
 
 pub added-size-requires : goal.added-size-requires
-added-size-requires c = (c.loop-kind.invariant.3, rw c.in_ok-turn-in-Record.ensures.turn.size (cap-small _))
+added-size-requires c = (c.loop-kind.invariant.3, rw c.in_ok-turn.ensures.turn.size (cap-small _))
 
 pub loop-kind-smaller : goal.loop-kind-smaller
-loop-kind-smaller c = omega (arith, (Walk.lies c.args.s.now c.loop-kind.place (sym c.record_at.ensures ∙ c.in-Record.is)), c.in_ok-turn-in-Record.ensures.turn.goes.from, c.in_ok-turn-in-Record.ensures.turn.goes.lies)
+loop-kind-smaller c = omega (arith, (Walk.lies c.args.s.now c.loop-kind.place (sym c.record_at.ensures ∙ c.in-Record.is)), c.in_ok-turn.ensures.turn.goes.from, c.in_ok-turn.ensures.turn.goes.lies)
 
 pub loop-kind-preserved : goal.loop-kind-preserved
-loop-kind-preserved c = let t = c.in_ok-turn-in-Record in
+loop-kind-preserved c = let t = c.in_ok-turn in
     let old = c.loop-kind.invariant in (
       t.ensures.turn.goes.lies,
       sym (left-fault c.args.s.now c.loop-kind.place _ c.in-Record.start c.in-Record.len (sym c.record_at.ensures ∙ c.in-Record.is) t.turn t.ensures) ∙ old.1,
@@ -46,8 +45,8 @@ loop-kind-preserved c = let t = c.in_ok-turn-in-Record in
       rw c.added-size.ensures (cap-small _),
     )
 
-pub returns-in-Cut : goal.returns-in-Cut
-returns-in-Cut c = let l = c.loop-kind in
+pub returns : goal.returns
+returns c = let l = c.loop-kind in
     let s = c.args.s.now in
-    let e = stops c.record_at.ensures (opened c.in-Cut.in-Cut-own.keys2) (left_cut s l.place) (left_end s l.place) in
+    let e = no_record c.record_at.ensures c.in_default.not-Record (left_cut s l.place) (left_end s l.place) in
     record { fault = end-fault s l.place e ∙ l.invariant.1; size = c.grown.ensures ∙ end-size s l.place e l.size ∙ l.invariant.2 }

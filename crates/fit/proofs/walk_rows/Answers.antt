@@ -28,14 +28,14 @@ loop-kind-smaller-then-kind-ne-ROW c = omega (arith, lies _ _ (sym c.record_at.e
 pub loop-kind-preserved-then-kind-ne-ROW : goal.loop-kind-preserved-then-kind-ne-ROW
 loop-kind-preserved-then-kind-ne-ROW c = rows_other _ _ _ _ _ _ c.loop-kind.invariant (sym c.record_at.ensures ∙ c.in-Record.is) (ne_eqb _ _ c.if-kind-eq-SET.false) (ne_eqb _ _ c.if-kind-ne-ROW.true)
 
-pub returns-in-Wrong : goal.returns-in-Wrong
-returns-in-Wrong c = rows-wrong _ _ _ _ _ _ c.loop-kind.invariant (kind-is (sym c.record_at.ensures ∙ c.in-Record.is) c.if-kind-ne-ROW.false) c.walk_row.ensures c.in-Wrong.is
+pub returns-in-Err : goal.returns-in-Err
+returns-in-Err c = rows-wrong _ _ _ _ _ _ c.loop-kind.invariant (kind-is (sym c.record_at.ensures ∙ c.in-Record.is) c.if-kind-ne-ROW.false) c.walk_row.ensures c.in-Err.is
 
 pub overflow_add-row : goal.overflow_add-row
 overflow_add-row c = omega (arith, lies _ _ (sym c.record_at.ensures ∙ c.in-Record.is))
 
 pub loop-kind-smaller : goal.loop-kind-smaller
-loop-kind-smaller c = omega (arith, lies _ _ (sym c.record_at.ensures ∙ c.in-Record.is), rows-onward _ _ _ _ _ _ c.loop-kind.invariant (kind-is (sym c.record_at.ensures ∙ c.in-Record.is) c.if-kind-ne-ROW.false) c.walk_row.ensures c.in-Right.is)
+loop-kind-smaller c = omega (arith, lies _ _ (sym c.record_at.ensures ∙ c.in-Record.is), rows-onward _ _ _ _ _ _ c.loop-kind.invariant (kind-is (sym c.record_at.ensures ∙ c.in-Record.is) c.if-kind-ne-ROW.false) c.walk_row.ensures c.in-Ok.is)
 
 pub loop-kind-preserved : goal.loop-kind-preserved
-loop-kind-preserved c = rows_next _ _ _ _ _ _ c.loop-kind.invariant (kind-is (sym c.record_at.ensures ∙ c.in-Record.is) c.if-kind-ne-ROW.false) c.walk_row.ensures c.in-Right.is
+loop-kind-preserved c = rows_next _ _ _ _ _ _ c.loop-kind.invariant (kind-is (sym c.record_at.ensures ∙ c.in-Record.is) c.if-kind-ne-ROW.false) c.walk_row.ensures c.in-Ok.is

@@ -23,14 +23,14 @@ slice_bounds-walk_set-start c = omega (arith, lies _ _ (sym c.record_at.ensures 
 pub slice_bounds-walk_set-end : goal.slice_bounds-walk_set-end
 slice_bounds-walk_set-end c = omega (arith, lies _ _ (sym c.record_at.ensures ∙ c.in-Record.is))
 
-pub returns-in-Wrong : goal.returns-in-Wrong
-returns-in-Wrong c = all-wrong _ _ _ c.loop-start.invariant c.walk_set.result (sym c.record_at.ensures ∙ c.in-Record.is) c.walk_set.ensures c.in-Wrong.is
+pub returns-in-Err : goal.returns-in-Err
+returns-in-Err c = all-wrong _ _ _ c.loop-start.invariant c.walk_set.result (sym c.record_at.ensures ∙ c.in-Record.is) c.walk_set.ensures c.in-Err.is
 
 pub overflow_add-set : goal.overflow_add-set
 overflow_add-set c = omega (arith, lies _ _ (sym c.record_at.ensures ∙ c.in-Record.is))
 
 pub loop-start-smaller : goal.loop-start-smaller
-loop-start-smaller c = omega (arith, lies _ _ (sym c.record_at.ensures ∙ c.in-Record.is), all-onward _ _ _ c.loop-start.invariant c.walk_set.result (sym c.record_at.ensures ∙ c.in-Record.is) c.walk_set.ensures c.in-Right.is)
+loop-start-smaller c = omega (arith, lies _ _ (sym c.record_at.ensures ∙ c.in-Record.is), all-onward _ _ _ c.loop-start.invariant c.walk_set.result (sym c.record_at.ensures ∙ c.in-Record.is) c.walk_set.ensures c.in-Ok.is)
 
 pub loop-start-preserved : goal.loop-start-preserved
-loop-start-preserved c = all-next _ _ _ c.loop-start.invariant c.walk_set.result (sym c.record_at.ensures ∙ c.in-Record.is) c.walk_set.ensures c.in-Right.is
+loop-start-preserved c = all-next _ _ _ c.loop-start.invariant c.walk_set.result (sym c.record_at.ensures ∙ c.in-Record.is) c.walk_set.ensures c.in-Ok.is

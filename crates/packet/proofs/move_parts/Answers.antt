@@ -17,7 +17,7 @@ move_part-at-requires c = let a = c.args in
 
 pub loop-place-preserved : goal.loop-place-preserved
 loop-place-preserved c = let a = c.args in
-    let len = c.least-len.result in
+    let len = c.min-len.result in
     let part = c.move_part-at.ensures in (
       stands-turn a.room c.loop-place.at c.loop-place.place a.total c.loop-place.buf c.loop-place.invariant.0 (omega arith) c.loop-place.number len (omega arith) part,
       omega arith,

@@ -5,12 +5,12 @@ use Rattle.std.specs.Io.KnownBytes.{Appends}
 use Rattle.reply.proofs.Wrote.{wrote-reply, wrote-refusal}
 use Rattle.reply.proofs.reply.Goals as goal
 
-pub returns-in-Written : goal.returns-in-Written
-returns-in-Written g c =
+pub returns-in-Ok : goal.returns-in-Ok
+returns-in-Ok g c =
     let P : List ℕ → Type 0 = λ xs. OnOk c.write.result (Appends (g.W.Write.contents c.args.out.now) (g.W.Write.contents c.write.new.out) xs) in
-    subst P (wrote-reply c.args.script.now _ _ _ c.in-Written.length (search rules) c.in-Written.ensures.value c.in-Written.ensures.buf_after c.part_of.ensures) c.write.ensures
+    subst P (wrote-reply c.args.script.now _ _ _ c.in-Ok.length (search rules) c.in-Ok.ensures.value c.in-Ok.ensures.buf_after c.part_of.ensures) c.write.ensures
 
-pub returns-in-Refused : goal.returns-in-Refused
-returns-in-Refused g c =
+pub returns-in-Err : goal.returns-in-Err
+returns-in-Err g c =
     let P : List ℕ → Type 0 = λ xs. OnOk c.refused.result (Appends (g.W.Write.contents c.args.out.now) (g.W.Write.contents c.refused.new.out) xs) in
-    subst P (wrote-refusal c.args.script.now (replicate 65535 0) c.in-Refused.number (search rules) c.in-Refused.ensures.value) c.refused.ensures
+    subst P (wrote-refusal c.args.script.now (replicate 65535 0) _ (search rules) c.in-Err.ensures.value) c.refused.ensures

@@ -6,18 +6,18 @@ use Rattle.packet.specs.Reply.{packet_of, reply_header}
 use Rattle.response.specs.Replies.{prelogin_reply}
 use Rattle.response.proofs.build_prelogin_response_with_options.Goals as goal
 
-pub returns-then-supports_encryption : goal.returns-then-supports_encryption
+pub returns-in-true-true : goal.returns-in-true-true
 unfolding prelogin_reply packet_of reply_header flat le be
-returns-then-supports_encryption c = record { value = rw (c.if-supports_fedauth.true, c.if-supports_encryption.true) c.fixed.ensures.value; buf_after = rw (c.if-supports_fedauth.true, c.if-supports_encryption.true) c.fixed.ensures.buf_after }
+returns-in-true-true c = rw (c.in-true-true.is-0, c.in-true-true.is-1) (record { value = c.fixed.ensures.value; buf_after = c.fixed.ensures.buf_after })
 
-pub returns-then-supports_fedauth : goal.returns-then-supports_fedauth
+pub returns-in-true-false : goal.returns-in-true-false
 unfolding prelogin_reply packet_of reply_header flat le be
-returns-then-supports_fedauth c = record { value = rw (c.if-supports_fedauth.true, c.if-supports_encryption.false) c.fixed-then-supports_fedauth.ensures.value; buf_after = rw (c.if-supports_fedauth.true, c.if-supports_encryption.false) c.fixed-then-supports_fedauth.ensures.buf_after }
+returns-in-true-false c = rw (c.in-true-false.is-0, c.in-true-false.is-1) (record { value = c.fixed-in-true-false.ensures.value; buf_after = c.fixed-in-true-false.ensures.buf_after })
 
-pub returns-then-supports_encryption-2 : goal.returns-then-supports_encryption-2
+pub returns-in-false-true : goal.returns-in-false-true
 unfolding prelogin_reply packet_of reply_header flat le be
-returns-then-supports_encryption-2 c = record { value = rw (c.if-supports_fedauth.false, c.if-supports_encryption-2.true) c.fixed-then-supports_encryption-2.ensures.value; buf_after = rw (c.if-supports_fedauth.false, c.if-supports_encryption-2.true) c.fixed-then-supports_encryption-2.ensures.buf_after }
+returns-in-false-true c = rw (c.in-false-true.is-0, c.in-false-true.is-1) (record { value = c.fixed-in-false-true.ensures.value; buf_after = c.fixed-in-false-true.ensures.buf_after })
 
-pub returns : goal.returns
+pub returns-in-false-false : goal.returns-in-false-false
 unfolding prelogin_reply packet_of reply_header flat le be
-returns c = record { value = rw (c.if-supports_fedauth.false, c.if-supports_encryption-2.false) c.fixed-2.ensures.value; buf_after = rw (c.if-supports_fedauth.false, c.if-supports_encryption-2.false) c.fixed-2.ensures.buf_after }
+returns-in-false-false c = rw (c.in-false-false.is-0, c.in-false-false.is-1) (record { value = c.fixed-in-false-false.ensures.value; buf_after = c.fixed-in-false-false.ensures.buf_after })

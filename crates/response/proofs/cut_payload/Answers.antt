@@ -1,9 +1,7 @@
 -- `response::cut_payload` meets its contract. Assumes nothing.
 use mathlib.Core.Path.{sym, ◌∙◌}
 use native.Mathlib.Omega.{arith}
-use Rattle.packet.proofs.Counts.{size-bounds}
 use Rattle.response.proofs.InPackets.{wrong_size, too_long, too_short, written}
-use borrow.Author.Rules.{rules}
 use Rattle.wire.proofs.Over.{wrote}
 use Rattle.response.proofs.cut_payload.Goals as goal
 
@@ -15,15 +13,9 @@ pub returns-then-payload-gt-MOST_PAYLOAD : goal.returns-then-payload-gt-MOST_PAY
 returns-then-payload-gt-MOST_PAYLOAD c = let a = c.args in
     let w = too_long a.size a.payload.now a.buf.now (sym c.is_packet_size.ensures ∙ c.if-not-is_packet_size.false) c.if-payload-gt-MOST_PAYLOAD.true in record { value = w.0; buf_after = w.1 }
 
-pub overflow_cast-size : goal.overflow_cast-size
-overflow_cast-size c = let h = (size-bounds c.args.size (sym c.is_packet_size.ensures ∙ c.if-not-is_packet_size.false)) in search rules
-
 pub returns-then-buf-total : goal.returns-then-buf-total
 returns-then-buf-total c = let a = c.args in
     let w = too_short a.size a.payload.now a.buf.now (sym c.is_packet_size.ensures ∙ c.if-not-is_packet_size.false) (omega arith) _ c.packets_length-total.ensures c.if-buf-total.true in record { value = w.0; buf_after = w.1 }
-
-pub overflow_cast-size-2 : goal.overflow_cast-size-2
-overflow_cast-size-2 c = let h = (size-bounds c.args.size (sym c.is_packet_size.ensures ∙ c.if-not-is_packet_size.false)) in search rules
 
 pub returns : goal.returns
 returns c = let a = c.args in

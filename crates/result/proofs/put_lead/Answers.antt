@@ -2,9 +2,9 @@
 use Rattle.result.proofs.Writes.{put-none}
 use Rattle.result.proofs.put_lead.Goals as goal
 
-pub returns-in-At : goal.returns-in-At
-returns-in-At c = record { buf_after = rw (c.in-At.is, ← c.part_of.ensures) c.put_error.ensures.buf_after; place_after = rw (c.in-At.is, ← c.part_of.ensures) c.put_error.ensures.place_after }
+pub returns-in-Some : goal.returns-in-Some
+returns-in-Some c = record { buf_after = rw (c.in-Some.is, ← c.part_of.ensures) c.put_error.ensures.buf_after; place_after = rw (c.in-Some.is, ← c.part_of.ensures) c.put_error.ensures.place_after }
 
-pub returns-in-Missing : goal.returns-in-Missing
-returns-in-Missing c = let a = c.args in
-    record { buf_after = rw c.in-Missing.is ((put-none a.buf.now a.at c.requires)).0; place_after = rw c.in-Missing.is ((put-none a.buf.now a.at c.requires)).1 }
+pub returns-in-None : goal.returns-in-None
+returns-in-None c = let a = c.args in
+    record { buf_after = rw c.in-None.is ((put-none a.buf.now a.at c.requires)).0; place_after = rw c.in-None.is ((put-none a.buf.now a.at c.requires)).1 }

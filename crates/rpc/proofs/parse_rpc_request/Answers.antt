@@ -1,20 +1,20 @@
 -- `rpc::parse_rpc_request` meets its contract. Assumes nothing.
-use mathlib.Core.Path.{◌≡◌, refl, sym, ◌∙◌}
-use Rattle.refusals.specs.Numbers.{call_cut}
-use Rattle.request.proofs.Blocks.{cut-block}
-use Rattle.rpc.specs.declared.Rpc.TheVariants.{Refused}
-use Rattle.rpc.specs.Rpc.{call_after, told, rpc_of}
-use Rattle.payload.specs.Places.{body_source}
+use mathlib.Core.Path.{sym, ◌∙◌}
+use Rattle.rpc.specs.Rpc.{rpc_of}
 use Rattle.rpc.proofs.parse_rpc_request.Goals as goal
 
-pub returns-in-Short : goal.returns-in-Short
+pub returns-in-Err-Short : goal.returns-in-Err-Short
 unfolding rpc_of
-returns-in-Short c = rw (← c.all_headers-headers.ensures) (cut-block (λ x. Refused call_cut ≡ told c.args.number (call_after (body_source c.args.body.now) x)) c.all_headers-headers.result c.in-Short.in-Short-own.keys1 refl refl)
+returns-in-Err-Short c = simp (← c.all_headers.ensures, c.in-Err-Short.is, c.in-Err-Short.field-0-is)
 
-pub returns-in-TooSmall : goal.returns-in-TooSmall
+pub returns-in-Err-TooSmall : goal.returns-in-Err-TooSmall
 unfolding rpc_of
-returns-in-TooSmall c = rw (sym c.all_headers-headers.ensures ∙ c.in-TooSmall.is)
+returns-in-Err-TooSmall c = simp (← c.all_headers.ensures, c.in-Err-TooSmall.is, c.in-Err-TooSmall.field-0-is)
 
-pub returns-in-Length : goal.returns-in-Length
+pub returns-in-Err-PastEnd : goal.returns-in-Err-PastEnd
 unfolding rpc_of
-returns-in-Length c = c.call_at.ensures ∙ rw (sym c.all_headers-headers.ensures ∙ c.in-Length.is)
+returns-in-Err-PastEnd c = simp (← c.all_headers.ensures, c.in-Err-PastEnd.is, c.in-Err-PastEnd.field-0-is)
+
+pub returns-in-Ok : goal.returns-in-Ok
+unfolding rpc_of
+returns-in-Ok c = c.call_at.ensures ∙ rw (sym c.all_headers.ensures ∙ c.in-Ok.is)

@@ -11,7 +11,7 @@ pub returns-then-buf-lt-PACKET_HEADER_SIZE : goal.returns-then-buf-lt-PACKET_HEA
 unfolding written_header
 returns-then-buf-lt-PACKET_HEADER_SIZE c = let a = c.args in
     let size = length-header a.header in
-    let w = too_few 8 a.buf.now (header_bytes a.header) (omega (arith, size, c.if-buf-lt-PACKET_HEADER_SIZE.true)) c.refused.type_inv c.refused.ensures in record { value = w.0; buf_after = w.1 }
+    let w = too_few 8 a.buf.now (header_bytes a.header) (omega (arith, size, c.if-buf-lt-PACKET_HEADER_SIZE.true)) c.refused.type_inv (rw c.number.ensures at c.refused.ensures) in record { value = w.0; buf_after = w.1 }
 
 pub returns : goal.returns
 unfolding written_header

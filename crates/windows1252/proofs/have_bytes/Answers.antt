@@ -1,31 +1,20 @@
--- `windows1252::have_bytes` meets its contract. The loop's invariant: the units from the place on decide. Assumes nothing.
-use mathlib.Core.Path.{refl, sym, ap, ◌∙◌}
-use native.Mathlib.Omega.{arith}
-use Rattle.text.proofs.Scan.{unit-at, no-unit}
-use Rattle.windows1252.specs.Table.{table, have_bytes}
-use Rattle.windows1252.proofs.Texts.{have-not, have-one}
+-- `windows1252::have_bytes` meets its contract. Assumes nothing.
+use mathlib.Core.Path.{◌∙◌, ap, sym}
+use borrow.Author.Rules.{rules}
+use borrow.Author.Tests.{tests}
+use Rattle.std.proofs.iter.Serving.{serving}
+use Rattle.std.proofs.lemmas.Iterator.{YieldsList-from_slice}
+use Rattle.std.proofs.lemmas.Iterator.Search.{all_from_yields_List}
+use Rattle.wire.specs.Le.{le_at}
+use Rattle.windows1252.specs.Table.{table, has_byte, have_bytes}
+use Rattle.windows1252.proofs.Texts.{units-in-pairs, have-all}
 use Rattle.windows1252.proofs.have_bytes.Goals as goal
 
-pub loop-at-init : goal.loop-at-init
+pub all-requires-clause-callable : goal.all-requires-clause-callable
 unfolding table
-loop-at-init c = (refl, omega arith, refl)
-
-pub has_byte-requires : goal.has_byte-requires
-has_byte-requires c = c.loop-at.invariant.0
-
-pub returns-then-not-has_byte : goal.returns-then-not-has_byte
-returns-then-not-has_byte c = let t = c.args.text.now in
-    let more = c.loop-at-test.true in
-    let turned = unit-at t c.loop-at.at more c.u16_from_le_bytes-unit.ensures in
-    sym (c.loop-at.invariant.2 ∙ ap have_bytes turned ∙ have-not _ _ (sym c.has_byte.ensures ∙ c.if-not-has_byte.true))
-
-pub loop-at-preserved : goal.loop-at-preserved
-loop-at-preserved c = let t = c.args.text.now in
-    let more = c.loop-at-test.true in
-    let turned = unit-at t c.loop-at.at more c.u16_from_le_bytes-unit.ensures in
-    (c.loop-at.invariant.0, omega (arith, more), c.loop-at.invariant.2 ∙ ap have_bytes turned ∙ have-one _ _ (sym c.has_byte.ensures ∙ c.if-not-has_byte.false))
+all-requires-clause-callable c = grind serving
 
 pub returns : goal.returns
-unfolding have_bytes
-returns c = let t = c.args.text.now in
-    sym (c.loop-at.invariant.2 ∙ ap have_bytes (no-unit t c.loop-at.at (omega (arith, c.loop-at-test.false))))
+returns c =
+    all_from_yields_List (λ pair. has_byte (le_at 2 pair)) _ _ _ c.all.ensures.ran (YieldsList-from_slice c.as_chunks.result.0.now cc) (λ x b q k. search (rules, tests))
+    ∙ have-all c.as_chunks.result.0.now ∙ ap have_bytes (rw c.as_chunks.ensures.front (sym (units-in-pairs c.args.text.now)))

@@ -4,4 +4,4 @@ use Rattle.packet.proofs.Bit.{masked}
 use Rattle.packet.proofs.PacketStatus.is_ignore.Goals as goal
 
 pub returns : goal.returns
-returns c = masked 1 c.args.status.0 (omega arith)
+returns c = masked 1 c.args.self.0 (omega arith)

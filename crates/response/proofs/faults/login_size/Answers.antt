@@ -5,6 +5,3 @@ use Rattle.response.proofs.faults.login_size.Goals as goal
 
 pub returns-then-login_ack : goal.returns-then-login_ack
 returns-then-login_ack c = rw c.if-login_ack.true (omega (arith, login-ack-size), omega arith)
-
-pub returns-else-login_ack : goal.returns-else-login_ack
-returns-else-login_ack c = rw c.if-login_ack.false (omega arith, omega arith)

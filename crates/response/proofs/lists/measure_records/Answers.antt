@@ -2,14 +2,10 @@
 -- on refuses as the whole list does and has the size that the whole has more than the size so far, as far as it counts.
 -- Assumes nothing.
 use Rattle.script.proofs.Walk.{lies}
-use Rattle.response.proofs.Measuring.{measuring, measured-cut, measured-end, measured-bad, measured-next}
+use Rattle.response.proofs.Measuring.{measured-cut, measured-end, measured-bad, measured-next}
 use mathlib.Core.Path.{sym, ◌∙◌}
 use native.Mathlib.Omega.{arith}
-use borrow.Author.Rules.{rules}
 use Rattle.response.proofs.lists.measure_records.Goals as goal
-
-pub loop-kind-init : goal.loop-kind-init
-loop-kind-init g c = (search rules, measuring _ _ _)
 
 pub returns-in-Cut : goal.returns-in-Cut
 returns-in-Cut g c = measured-cut _ _ _ _ _ c.loop-kind.invariant.1 (sym c.record_at.ensures ∙ c.in-Cut.is)
@@ -19,9 +15,6 @@ returns-in-End g c = measured-end _ _ _ _ _ c.loop-kind.invariant.1 (sym c.recor
 
 pub overflow_add-next : goal.overflow_add-next
 overflow_add-next g c = omega (arith, lies _ _ (sym c.record_at.ensures ∙ c.in-Record.is))
-
-pub slice_bounds-payload-start : goal.slice_bounds-payload-start
-slice_bounds-payload-start g c = omega (arith, lies _ _ (sym c.record_at.ensures ∙ c.in-Record.is))
 
 pub slice_bounds-payload-end : goal.slice_bounds-payload-end
 slice_bounds-payload-end g c = omega (arith, lies _ _ (sym c.record_at.ensures ∙ c.in-Record.is))

@@ -13,9 +13,6 @@ loop-kind-init g c = (search rules, putting-start _ _ _ _ c.put_nothing-place.en
 pub overflow_add-next : goal.overflow_add-next
 overflow_add-next g c = omega (arith, lies _ _ (sym c.record_at.ensures ∙ c.in-Record.is))
 
-pub slice_bounds-put-start : goal.slice_bounds-put-start
-slice_bounds-put-start g c = omega (arith, lies _ _ (sym c.record_at.ensures ∙ c.in-Record.is))
-
 pub slice_bounds-put-end : goal.slice_bounds-put-end
 slice_bounds-put-end g c = omega (arith, lies _ _ (sym c.record_at.ensures ∙ c.in-Record.is))
 

@@ -12,5 +12,5 @@ pub returns-then-sent : goal.returns-then-sent
 unfolding login_ack_token wide le be flat units_of units
 returns-then-sent c = rw c.if-sent.true (wrote c.put_slice.ensures.buf_after c.put_slice.ensures.place_after)
 
-pub returns : goal.returns
-returns c = rw c.if-sent.false (nothing _ _ c.put_nothing.ensures)
+pub returns-else-sent : goal.returns-else-sent
+returns-else-sent c = rw c.if-sent.false (nothing _ _ c.put_nothing.ensures)

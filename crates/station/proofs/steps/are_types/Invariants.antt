@@ -8,6 +8,3 @@ use Rattle.station.proofs.steps.are_types.Given as goal
 
 abbrev pub invariant-loop-i : goal.invariant-loop-i
 invariant-loop-i l = (l.i ≤ l.n) × (l.n ≤ 128) × (l.n ≤ length l.slots - 6) × (held_to l.slots l.i ≡ true)
-
-abbrev pub decreases-loop-i : goal.decreases-loop-i
-decreases-loop-i l = l.n - l.i

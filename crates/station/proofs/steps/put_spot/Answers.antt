@@ -1,21 +1,12 @@
 -- `station::steps::put_spot` meets its contract. Assumes nothing.
-use lib.ListN.{length-set}
-use native.Mathlib.Omega.{arith}
-use Rattle.wire.specs.Over.{overwrite}
+use mathlib.Core.Path.{◌≡◌, sym}
+use mathlib.Core.Bool.{cond}
+use borrow.Author.Rules.{rules}
+use Rattle.wire.proofs.Over.{over-eq}
+use Rattle.station.specs.Steps.{spot_slots}
 use Rattle.station.proofs.steps.put_spot.Goals as goal
 
-pub bounds-slots-1 : goal.bounds-slots-1
-bounds-slots-1 c = simp length-set (omega arith)
-
-pub bounds-slots-2 : goal.bounds-slots-2
-bounds-slots-2 c = simp length-set (omega arith)
-
-pub bounds-slots-3 : goal.bounds-slots-3
-bounds-slots-3 c = simp length-set (omega arith)
-
-pub bounds-slots-4 : goal.bounds-slots-4
-bounds-slots-4 c = simp length-set (omega arith)
-
 pub returns : goal.returns
-unfolding overwrite
-returns c = rw c.flag.ensures
+returns c = let a = c.args in
+    let over : c.from.result ≡ cond a.next.over 1 0 = search (rules, c.from.ensures) in
+    rw (c.copy_from_slice.ensures.after, over) (sym (over-eq (spot_slots a.next) a.slots.now 0 c.requires))
