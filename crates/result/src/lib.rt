@@ -219,11 +219,7 @@ fn put_turn(w: &mut Writer, s: &[u8], kind: u16, p: &[u8], next: usize, rows: u6
             token::put_done(w, MORE, rows);
             put_set(w, s, p, next)
         }
-        script::INFO => {
-            put_info(w, p);
-            next
-        }
-        script::TRAILING_INFO => {
+        script::INFO | script::TRAILING_INFO => {
             put_info(w, p);
             next
         }
@@ -237,6 +233,7 @@ fn put_turn(w: &mut Writer, s: &[u8], kind: u16, p: &[u8], next: usize, rows: u6
 }
 
 // The rows of a set after a record.
+#[tactic(auto, unfolding(emission::specs::Walk::rows_after))]
 fn rows_after(rows: u64, kind: u16) -> u64
     requires { rows + 1 < 2 ^ 64 }
     ensures { (result ≡ rows_after rows kind) × (result ≤ rows + 1) }
@@ -398,6 +395,7 @@ pub fn build_query_results_in_packets(
 }
 
 // The room for a script's reply as one packet, exactly its length: what its builder answers where enough is lent.
+#[tactic(auto, unfolding(crate::specs::Built::room_of, emission::specs::Length::measure_of))]
 pub fn room_estimate(script: &[u8]) -> Result<usize, Refusal>
     ensures { numbered result ≡ room_of script.now }
 {

@@ -1,4 +1,5 @@
 -- `result::put_turn` meets its contract. Assumes nothing.
+use mathlib.Core.Logic.{inl, inr}
 use lib.ListN.{drop}
 use borrow.Author.Tests.{ne_eqb}
 use Rattle.script.specs.Records.{records}
@@ -18,12 +19,10 @@ returns-in-1 c = let a = c.args in
 pub returns-in-3 : goal.returns-in-3
 unfolding pieces_of
 returns-in-3 c = let a = c.args in
-    rw c.in-3.is (record { puts = put_one (info_token a.p.now) c.put_info.ensures; goes = goes-here a.s.now a.next c.requires.1 })
-
-pub returns-in-9 : goal.returns-in-9
-unfolding pieces_of
-returns-in-9 c = let a = c.args in
-    rw c.in-9.is (record { puts = put_one (info_token a.p.now) c.put_info-in-9.ensures; goes = goes-here a.s.now a.next c.requires.1 })
+    elim c.in-3.is [
+      | inl e ↦ rw e (record { puts = put_one (info_token a.p.now) c.put_info.ensures; goes = goes-here a.s.now a.next c.requires.1 })
+      | inr e ↦ rw e (record { puts = put_one (info_token a.p.now) c.put_info.ensures; goes = goes-here a.s.now a.next c.requires.1 })
+    ]
 
 pub returns-in-4 : goal.returns-in-4
 unfolding pieces_of
@@ -37,4 +36,5 @@ returns-in-5 c = rw c.in-5.is c.put_cell.ensures
 pub returns-in_default : goal.returns-in_default
 unfolding pieces_of
 returns-in_default c = let a = c.args in
-    simp (ne_eqb _ _ c.in_default.in_default-own.rest.0.0.0.0.1, ne_eqb _ _ c.in_default.in_default-own.rest.0.0.0.1, ne_eqb _ _ c.in_default.in_default-own.rest.0.0.1, ne_eqb _ _ c.in_default.in_default-own.rest.0.1, ne_eqb _ _ c.in_default.in_default-own.rest.1) (record { puts = put-none a.w.now c.requires.0; goes = goes-here a.s.now a.next c.requires.1 })
+    let h = c.in_default.in_default-own.rest in
+    simp (ne_eqb _ _ h.0.0.0.1, ne_eqb a.kind 3 (λ e. h.0.0.1 (inl e)), ne_eqb a.kind 9 (λ e. h.0.0.1 (inr e)), ne_eqb _ _ h.0.1, ne_eqb _ _ h.1) (record { puts = put-none a.w.now c.requires.0; goes = goes-here a.s.now a.next c.requires.1 })
