@@ -2,16 +2,24 @@
 // front of a buffer, whose rest is kept; of an unknown type all of it.
 use crate::{builds, spaces, words};
 use packet::{PacketHeader, PacketStatus, PacketType};
+use wire::Writer;
 
 pub(crate) fn holds(line: &[u8]) -> bool {
     let mut buf = spaces::patterned();
     match PacketType::try_from(words::u8_at(line, 1)) {
         Ok(packet_type) => {
-            let len = header(line, packet_type).write(&mut buf, 0);
+            let len = put(header(line, packet_type), &mut buf);
             builds::is_written(line, &buf, len)
         }
         Err(refusal) => builds::is_refused(line, &buf, refusal),
     }
+}
+
+// The header at the buffer's front; answers its length.
+fn put(header: PacketHeader, buf: &mut [u8]) -> usize {
+    let mut w = Writer { buf, at: 0 };
+    header.write(&mut w);
+    w.at
 }
 
 // The header of a type with the other fields of the line.

@@ -21,6 +21,7 @@ ghost use Rattle.station.specs.Calls.{header_outcome, header_call, written_heade
 use packet::{PACKET_HEADER_SIZE, PacketHeader, PacketStatus, PacketType};
 use refusals::Refusal;
 use slots::{answered, flag, refused};
+use wire::Writer;
 
 // 0: type, status, length, spid, number and window of a packet header.
 #[unsafe(no_mangle)]
@@ -87,7 +88,9 @@ fn write_header(header: PacketHeader, buf: &mut [u8]) -> i64
     if buf.len() < PACKET_HEADER_SIZE {
         return refused(Refusal::BufferTooShort.number());
     }
-    header.write(buf, 0) as i64
+    let mut w = Writer { buf, at: 0 };
+    header.write(&mut w);
+    w.at as i64
 }
 
 // 1 where trimming removes the unit, else 0.

@@ -1,6 +1,7 @@
 -- `station::write_header` meets its contract. Assumes nothing.
 use mathlib.Core.Path.{◌≡◌}
 use native.Mathlib.Omega.{arith}
+use borrow.Author.Rules.{rules}
 use Rattle.packet.proofs.Sizes.{length-header}
 use Rattle.packet.specs.Header.{header_bytes}
 use Rattle.station.proofs.Ends.{too_few, written}
@@ -18,6 +19,6 @@ unfolding written_header
 returns c = let a = c.args in
     let size = length-header a.header in
     let room = c.if-buf-lt-PACKET_HEADER_SIZE.false in
-    let eight : c.write.result ≡ 8 = omega (arith, size, room, c.write.ensures.place_after.place) in
-    let w = written 8 a.buf.now (header_bytes a.header) _ (omega (arith, size, room)) (omega arith) c.write.ensures.buf_after in
-    record { value = rw eight w.0; buf_after = w.1 }
+    let eight : c.write.new.w.at ≡ 8 = omega (arith, size, room, c.write.ensures.wrote.1.place) in
+    let w = written 8 a.buf.now (header_bytes a.header) _ (omega (arith, size, room)) (omega arith) c.write.ensures.wrote.0 in
+    record { value = rw eight w.0; buf_after = search (rules, w.1) }
