@@ -68,8 +68,8 @@ def constants_differ(what, header, others):
 
 
 def cases(text, enum):
-    """The bytes of an enum's cases, by the case's name in capitals, from `N => ..Enum::Case`."""
-    found = re.findall(rf"^ *(\w+) => \w+::Known\({enum}::(\w+)\),", text, re.M)
+    """The bytes of an enum's cases, by the case's name in capitals, from `N => ..(Enum::Case)`."""
+    found = re.findall(rf"^ *(\w+) => \w+\({enum}::(\w+)\),", text, re.M)
     return {name.upper(): declared.number(value) for value, name in found}
 
 
@@ -108,7 +108,7 @@ def one_each(root, constants):
 def covered(root, constants):
     """Constants of a crate that the header has to name, and does not."""
     for file, prefix, form, left_out in (
-        ("crates/refusals/src/lib.rt", "", "{}", {"NONE"}),
+        ("crates/refusals/src/lib.rt", "", "{}", set()),
         ("crates/script/src/lib.rt", "RECORD_", "{}", {"HEAD", "HEAD_LAST"}),
     ):
         for other in declared.constants_of(root / file):

@@ -16,6 +16,7 @@ C_FUNCTION = re.compile(r"^(\w+) (station_\w+)\(([^)]*)\);", re.M)
 C_CONSTANT = re.compile(r"^#define (STATION_\w+) (\S+(?: ?\S+)*?)(?: */\*.*)?$", re.M)
 RATTLE_EXPORT = re.compile(r'^#\[unsafe\(no_mangle\)\]\npub extern "C" fn (\w+)\(([^)]*)\) -> (\w+)', re.M)
 RATTLE_CONSTANT = re.compile(r"^ *(?:pub )?const (\w+): \w+ = ([0-9A-Fa-fx_]+);", re.M)
+RATTLE_CASE = re.compile(r"^    ([A-Z]\w*) = (\w+),$", re.M)
 RUST_FUNCTION = re.compile(r"^    pub fn (\w+)\(([^)]*)\) -> (\w+);", re.M)
 RUST_CONSTANT = re.compile(r"^pub const (\w+): (\w+) = ([^;]+);", re.M)
 
@@ -96,8 +97,11 @@ def of_crate(folder):
 
 
 def constants_of(file):
-    """The constants of a file in Rattle, by name."""
-    return {name: number(value) for name, value in RATTLE_CONSTANT.findall(file.read_text())}
+    """The constants of a file in Rattle, by name, and the numbers of its enums' cases, whose names are spelled as constants'."""
+    text = file.read_text()
+    found = {re.sub(r"(?<=[a-z0-9])(?=[A-Z])|(?<=A)(?=[A-Z][a-z])", "_", name).upper(): number(value)
+             for name, value in RATTLE_CASE.findall(text)}
+    return found | {name: number(value) for name, value in RATTLE_CONSTANT.findall(text)}
 
 
 def symbols(library):

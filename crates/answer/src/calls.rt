@@ -85,7 +85,7 @@ pub(crate) fn answer(call: Call, input: &[u8], out: &mut impl Write) -> io::Resu
 fn answer_header(input: &[u8], out: &mut impl Write) -> io::Result<()> {
     match PacketHeader::parse(input) {
         Ok(header) => header_line(header, out),
-        Err(refusal) => lines::refused(out, refusal.number()),
+        Err(refusal) => lines::refused(out, refusal),
     }
 }
 

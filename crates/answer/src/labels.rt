@@ -18,7 +18,7 @@ pub(crate) fn read(input: &[u8], out: &mut impl Write) -> io::Result<()> {
             lines::bytes_line(out, b"text", wire::part_of(&text, held))
         },
         Ok(None) => lines::text(out, b"null\n"),
-        Err(refusal) => lines::refused(out, refusal.number()),
+        Err(refusal) => lines::refused(out, refusal),
     }
 }
 
@@ -30,6 +30,6 @@ pub(crate) fn write(input: &[u8], out: &mut impl Write) -> io::Result<()> {
             let held = Part { start: 0, len };
             lines::bytes_line(out, b"value", wire::part_of(&value, held))
         },
-        Err(refusal) => lines::refused(out, refusal.number()),
+        Err(refusal) => lines::refused(out, refusal),
     }
 }

@@ -1,5 +1,5 @@
 // Text that goes to a writer: each function puts its part after what stands there. The writer gathers it (gathering.rt).
-use itoa::Buffer;
+use refusals::Refusal;
 use std::io;
 use std::io::Write;
 use wire::Part;
@@ -11,14 +11,7 @@ pub(crate) fn text(out: &mut impl Write, bytes: &[u8]) -> io::Result<()> {
 
 // A number in decimal, after a space.
 pub(crate) fn number(out: &mut impl Write, n: u64) -> io::Result<()> {
-    text(out, b" ")?;
-    decimal(out, n)
-}
-
-// A number in decimal.
-pub(crate) fn decimal(out: &mut impl Write, n: u64) -> io::Result<()> {
-    let mut digits = Buffer::new();
-    text(out, digits.format(n).as_bytes())
+    write!(out, " {n}")
 }
 
 // Numbers, each after a space.
@@ -52,29 +45,15 @@ pub(crate) fn word(out: &mut impl Write, n: u16) -> io::Result<()> {
 // Bytes in upper-case hexadecimal.
 pub(crate) fn digits(out: &mut impl Write, s: &[u8]) -> io::Result<()> {
     for byte in s {
-        hex(out, *byte)?;
+        write!(out, "{byte:02X}")?;
     }
     Ok(())
-}
-
-// A byte as two digits.
-fn hex(out: &mut impl Write, byte: u8) -> io::Result<()> {
-    text(out, &[digit(byte / 16), digit(byte % 16)])
-}
-
-// The digit of a number under 16.
-fn digit(n: u8) -> u8 {
-    if n < 10 { b'0' + n } else { b'A' - 10 + n % 16 }
 }
 
 // A word and 1 or 0.
 pub(crate) fn flag(out: &mut impl Write, word: &[u8], set: bool) -> io::Result<()> {
     text(out, word)?;
-    if set {
-        text(out, b"1")
-    } else {
-        text(out, b"0")
-    }
+    write!(out, "{}", u8::from(set))
 }
 
 // A line of a word and a number.
@@ -120,8 +99,8 @@ pub(crate) fn held_line(
 }
 
 // The line of a refusal.
-pub(crate) fn refused(out: &mut impl Write, refusal: u8) -> io::Result<()> {
-    number_line(out, b"refused", refusal as u64)
+pub(crate) fn refused(out: &mut impl Write, refusal: Refusal) -> io::Result<()> {
+    number_line(out, b"refused", refusal.number() as u64)
 }
 
 // The end of a line.

@@ -21,7 +21,7 @@ pub(crate) fn answer(input: &[u8], out: &mut impl Write) -> io::Result<()> {
             };
             features_line(wire::part_of(&ids, held), out)
         }
-        Err(refusal) => lines::refused(out, refusal.number()),
+        Err(refusal) => lines::refused(out, refusal),
     }
 }
 

@@ -24,7 +24,7 @@ pub(crate) fn answer(input: &[u8], out: &mut impl Write) -> io::Result<()> {
             statement_line(body, call.statement, out)?;
             asked_lines(body, call.asked, out)
         },
-        Err(refusal) => lines::refused(out, refusal.number()),
+        Err(refusal) => lines::refused(out, refusal),
     }
 }
 

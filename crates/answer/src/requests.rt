@@ -8,7 +8,7 @@ use std::io::Write;
 pub(crate) fn batch(input: &[u8], out: &mut impl Write) -> io::Result<()> {
     match request::parse_sql_batch(input) {
         Ok(part) => lines::held_line(out, b"text", input, part),
-        Err(refusal) => lines::refused(out, refusal.number()),
+        Err(refusal) => lines::refused(out, refusal),
     }
 }
 
@@ -16,7 +16,7 @@ pub(crate) fn batch(input: &[u8], out: &mut impl Write) -> io::Result<()> {
 pub(crate) fn transaction(input: &[u8], out: &mut impl Write) -> io::Result<()> {
     match request::parse_transaction_manager_request(input) {
         Ok(kind) => lines::number_line(out, b"type", kind as u64),
-        Err(refusal) => lines::refused(out, refusal.number()),
+        Err(refusal) => lines::refused(out, refusal),
     }
 }
 
@@ -38,6 +38,6 @@ fn found_line(found: Descriptor, out: &mut impl Write) -> io::Result<()> {
 pub(crate) fn fedauth(input: &[u8], out: &mut impl Write) -> io::Result<()> {
     match request::parse_fedauth_token(input) {
         Ok(part) => lines::part_line(out, b"token", part),
-        Err(refusal) => lines::refused(out, refusal.number()),
+        Err(refusal) => lines::refused(out, refusal),
     }
 }

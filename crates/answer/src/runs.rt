@@ -3,7 +3,7 @@ ghost use Rattle.std.specs.Prelude.{◌≤◌, IfOk};
 
 use crate::calls::Call;
 use crate::{calls, lines};
-use refusals::INPUT_TOO_LONG;
+use refusals::Refusal;
 use std::io;
 use std::io::{Read, Write};
 use wire::Part;
@@ -35,7 +35,7 @@ pub(crate) fn once<R: Read, W: Write>(
     if n <= most(call) {
         calls::answer(call, wire::part_of(input, Part { start: 0, len: n }), out)
     } else {
-        lines::refused(out, INPUT_TOO_LONG)
+        lines::refused(out, Refusal::InputTooLong)
     }
 }
 
@@ -113,7 +113,7 @@ fn over<R: Read, W: Write>(
     if !pass_over(from, input, run.len as usize)? {
         return Ok(stopped());
     }
-    lines::refused(out, INPUT_TOO_LONG)?;
+    lines::refused(out, Refusal::InputTooLong)?;
     lines::end(out)?;
     let got = read_up_to(from, input, 4)?;
     Ok(next(input, 0, got == 4))

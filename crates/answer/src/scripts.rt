@@ -28,7 +28,7 @@ pub(crate) fn reply(input: &[u8], out: &mut impl Write) -> io::Result<()> {
             ),
             out,
         ),
-        Err(refusal) => lines::refused(out, refusal.number()),
+        Err(refusal) => lines::refused(out, refusal),
     }
 }
 
@@ -59,7 +59,7 @@ pub(crate) fn packets(input: &[u8], out: &mut impl Write) -> io::Result<()> {
             };
             packet_lines(wire::part_of(&packets, all), size, out)
         }
-        Err(refusal) => lines::refused(out, refusal.number()),
+        Err(refusal) => lines::refused(out, refusal),
     }
 }
 
@@ -91,7 +91,7 @@ pub(crate) fn sized(input: &[u8], out: &mut impl Write) -> io::Result<()> {
 fn room_line(room: Result<usize, Refusal>, out: &mut impl Write) -> io::Result<()> {
     match room {
         Ok(n) => lines::number_line(out, b"room", n as u64),
-        Err(refusal) => lines::refused(out, refusal.number()),
+        Err(refusal) => lines::refused(out, refusal),
     }
 }
 
@@ -100,7 +100,7 @@ pub(crate) fn fit(input: &[u8], out: &mut impl Write) -> io::Result<()> {
     match fit::check(input) {
         Ok(None) => lines::text(out, b"fits\n"),
         Ok(Some(misfit)) => misfit_line(misfit, out),
-        Err(refusal) => lines::refused(out, refusal.number()),
+        Err(refusal) => lines::refused(out, refusal),
     }
 }
 

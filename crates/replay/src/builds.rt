@@ -11,7 +11,7 @@ pub(crate) fn holds(line: &[u8], name: &[u8]) -> bool {
     let lent = words::u64_at(line, 1) as usize;
     match build_lent(line, name, &mut buf, lent) {
         Some(Ok(len)) => is_written(line, &buf, len),
-        Some(Err(refusal)) => is_refused(line, &buf, refusal.number()),
+        Some(Err(refusal)) => is_refused(line, &buf, refusal),
         None => false,
     }
 }
@@ -23,7 +23,7 @@ pub(crate) fn is_written(line: &[u8], buf: &[u8], len: usize) -> bool {
     calls::same_bytes(line, wire::part_of(buf, calls::first(len)))
 }
 
-pub(crate) fn is_refused(line: &[u8], buf: &[u8], refusal: u8) -> bool {
+pub(crate) fn is_refused(line: &[u8], buf: &[u8], refusal: Refusal) -> bool {
     if !calls::is_kept(buf, 0) {
         return false;
     }
@@ -41,13 +41,13 @@ fn build_lent(line: &[u8], name: &[u8], buf: &mut [u8], lent: usize) -> Told {
 
 // Builders by the beginning of their names.
 fn build(line: &[u8], name: &[u8], buf: &mut [u8]) -> Told {
-    if words::piece(name, 6, b'_') == b"query".as_slice() {
+    if name.starts_with(b"build_query_") {
         return build_result(line, name, buf);
     }
     if name == b"cut_payload".as_slice() {
         return cut(line, buf);
     }
-    if words::piece(name, 6, b'_') == b"prelogin".as_slice() {
+    if name.starts_with(b"build_prelogin_") {
         return build_prelogin(line, name, buf);
     }
     build_fixed(line, name, buf)
@@ -173,7 +173,7 @@ fn build_first(line: &[u8], name: &[u8], one: &[u8], buf: &mut [u8]) -> Told {
 // Builders of two texts, or of a text and a list.
 fn build_second(line: &[u8], name: &[u8], one: &[u8], buf: &mut [u8]) -> Told {
     let mut space = spaces::zeros();
-    if words::piece(name, 6, b'_') == b"fedauth".as_slice() {
+    if name.starts_with(b"build_fedauth_") {
         let n = words::bytes_at(line, 3, &mut space);
         return build_fedauth(name, one, wire::part_of(&space, calls::first(n)), buf);
     }

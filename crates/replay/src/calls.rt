@@ -8,7 +8,7 @@ use wire::Part;
 // Whether the call of a line answers what the line holds.
 pub(crate) fn holds(line: &[u8]) -> bool {
     let name = words::word(line, 0);
-    if words::piece(name, 0, b'_') == b"build".as_slice() {
+    if words::before(name, b'_') == b"build".as_slice() {
         return builds::holds(line, name);
     }
     if name == b"cut_payload".as_slice() {

@@ -17,7 +17,7 @@ pub(crate) fn marks(line: &[u8], input: &[u8], out: &mut [u8]) -> usize {
             tell_slots(&slots, count, out, at)
         }
         Err(refusal) => {
-            let at = told::refused(out, 0, refusal.number());
+            let at = told::refused(out, 0, refusal);
             tell_slots(&slots, 0, out, at)
         }
     }

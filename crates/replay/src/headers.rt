@@ -10,7 +10,7 @@ pub(crate) fn holds(line: &[u8]) -> bool {
             let len = header(line, packet_type).write(&mut buf, 0);
             builds::is_written(line, &buf, len)
         }
-        Err(refusal) => builds::is_refused(line, &buf, refusal.number()),
+        Err(refusal) => builds::is_refused(line, &buf, refusal),
     }
 }
 

@@ -19,7 +19,7 @@ fn is_read(line: &[u8], value: &[u8]) -> bool {
     match read_lent(value, &mut buf, lent) {
         Ok(Some(len)) => is_told(line, b"text", &buf, len),
         Ok(None) => is_null(line, &buf),
-        Err(refusal) => builds::is_refused(line, &buf, refusal.number()),
+        Err(refusal) => builds::is_refused(line, &buf, refusal),
     }
 }
 
@@ -42,7 +42,7 @@ fn is_written(line: &[u8], text: &[u8]) -> bool {
     let lent = words::u64_at(line, 1) as usize;
     match write_lent(text, &mut buf, lent) {
         Ok(len) => is_told(line, b"value", &buf, len),
-        Err(refusal) => builds::is_refused(line, &buf, refusal.number()),
+        Err(refusal) => builds::is_refused(line, &buf, refusal),
     }
 }
 

@@ -17,7 +17,7 @@ pub(crate) fn parse(line: &[u8], input: &[u8], out: &mut [u8]) -> usize {
     match parse_lent(input, &mut ids, lent) {
         Ok(read) => tell_read(read, &ids, out),
         Err(refusal) => {
-            let at = told::refused(out, 0, refusal.number());
+            let at = told::refused(out, 0, refusal);
             calls::tell_spilled(&ids, 0, out, at)
         }
     }

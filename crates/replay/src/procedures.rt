@@ -9,7 +9,7 @@ pub(crate) fn parse(line: &[u8], body: &[u8], out: &mut [u8]) -> usize {
     let number = words::u64_at(line, 1) as usize;
     match rpc::parse_rpc_request(body, number) {
         Ok(call) => tell_call(call, out),
-        Err(refusal) => told::refused(out, 0, refusal.number()),
+        Err(refusal) => told::refused(out, 0, refusal),
     }
 }
 

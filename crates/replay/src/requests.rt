@@ -8,7 +8,7 @@ use wire::Part;
 pub(crate) fn header(input: &[u8], out: &mut [u8]) -> usize {
     match PacketHeader::parse(input) {
         Ok(header) => tell_header(header, out),
-        Err(refusal) => told::refused(out, 0, refusal.number()),
+        Err(refusal) => told::refused(out, 0, refusal),
     }
 }
 
@@ -38,7 +38,7 @@ pub(crate) fn whitespace(input: &[u8], out: &mut [u8]) -> usize {
 pub(crate) fn counts(input: &[u8], out: &mut [u8]) -> usize {
     match text::text_fault(input) {
         Ok(()) => tell_counts(input, out),
-        Err(refusal) => told::refused(out, 0, refusal.number()),
+        Err(refusal) => told::refused(out, 0, refusal),
     }
 }
 
@@ -56,7 +56,7 @@ fn tell_counts(input: &[u8], out: &mut [u8]) -> usize {
 pub(crate) fn batch(input: &[u8], out: &mut [u8]) -> usize {
     match request::parse_sql_batch(input) {
         Ok(part) => tell_part(part, out),
-        Err(refusal) => told::refused(out, 0, refusal.number()),
+        Err(refusal) => told::refused(out, 0, refusal),
     }
 }
 
@@ -64,7 +64,7 @@ pub(crate) fn batch(input: &[u8], out: &mut [u8]) -> usize {
 pub(crate) fn transaction(input: &[u8], out: &mut [u8]) -> usize {
     match request::parse_transaction_manager_request(input) {
         Ok(kind) => told::number(out, 0, kind as u64),
-        Err(refusal) => told::refused(out, 0, refusal.number()),
+        Err(refusal) => told::refused(out, 0, refusal),
     }
 }
 
@@ -82,7 +82,7 @@ pub(crate) fn descriptor(input: &[u8], out: &mut [u8]) -> usize {
 pub(crate) fn fedauth(input: &[u8], out: &mut [u8]) -> usize {
     match request::parse_fedauth_token(input) {
         Ok(part) => tell_part(part, out),
-        Err(refusal) => told::refused(out, 0, refusal.number()),
+        Err(refusal) => told::refused(out, 0, refusal),
     }
 }
 

@@ -1,43 +1,30 @@
 // A run over a list, line by line. A line that is empty or begins with `#` is a comment.
 use crate::{calls, words};
-use itoa::Buffer;
 use std::io;
 use std::io::Write;
-use wire::Part;
 
-// Where a run stands: the place of the next line, the number of the last one, the function whose lines are being
-// counted (its name as a part of the list) and how many there were, how many lines in all, and how many differ.
+// Where a run stands: the function whose lines are being counted and how many there were, how many lines in all, and how
+// many differ.
 #[derive(Clone, Copy)]
-pub(crate) struct Run {
-    at: usize,
-    line: u64,
-    name: Part,
+pub(crate) struct Run<'a> {
+    name: &'a [u8],
     count: u64,
     lines: u64,
     differ: u64,
 }
 
-impl Run {
+impl<'a> Run<'a> {
     fn fresh() -> Self {
         Run {
-            at: 0,
-            line: 0,
-            name: Part { start: 0, len: 0 },
+            name: &[],
             count: 0,
             lines: 0,
             differ: 0,
         }
     }
 
-    // Past a line.
-    fn passed(mut self, next: usize) -> Self {
-        self.at = next;
-        self.line = one_more(self.line);
-        self
-    }
-
     // At the first line of another function.
-    fn named(mut self, name: Part) -> Self {
+    fn named(mut self, name: &'a [u8]) -> Self {
         self.name = name;
         self.count = 0;
         self
@@ -59,80 +46,70 @@ fn one_more(n: u64) -> u64 {
     n.wrapping_add(1)
 }
 
-// The whole list. No list has more lines than bytes, since a line takes a byte or more.
-pub(crate) fn over(list: &[u8], out: &mut impl Write) -> io::Result<Run> {
+// The whole list.
+pub(crate) fn over<'a>(list: &'a [u8], out: &mut impl Write) -> io::Result<Run<'a>> {
     let mut run = Run::fresh();
-    for _ in 0..list.len() {
-        if list.len() <= run.at {
-            break;
-        }
-        run = turn(list, run, out)?;
+    for (before, line) in list.split(|byte| *byte == b'\n').enumerate() {
+        run = turn(line, one_more(before as u64), run, out)?;
     }
-    print_count(list, run, out)?;
+    print_count(run, out)?;
     Ok(run)
 }
 
-fn turn(list: &[u8], run: Run, out: &mut impl Write) -> io::Result<Run> {
-    let at = run.at;
-    let line = words::piece(list, at, b'\n');
-    let run = run.passed(words::past(list, at, b'\n'));
+fn turn<'a>(
+    line: &'a [u8],
+    number: u64,
+    run: Run<'a>,
+    out: &mut impl Write,
+) -> io::Result<Run<'a>> {
     if is_comment(line) {
         return Ok(run);
     }
-    let name = Part {
-        start: at,
-        len: words::span(line, 0, b' '),
-    };
-    let run = begun(list, run, name, out)?;
-    replayed(line, run, out)
+    let run = begun(run, words::word(line, 0), out)?;
+    replayed(line, number, run, out)
 }
 
 fn is_comment(line: &[u8]) -> bool {
-    if line.len() == 0 {
-        return true;
+    match line.first() {
+        Some(byte) => *byte == b'#',
+        None => true,
     }
-    line[0] == b'#'
 }
 
 // The count of a function's lines ends where another's begin.
-fn begun(list: &[u8], run: Run, name: Part, out: &mut impl Write) -> io::Result<Run> {
-    let held = run.name;
-    if wire::part_of(list, held) == wire::part_of(list, name) {
+fn begun<'a>(run: Run<'a>, name: &'a [u8], out: &mut impl Write) -> io::Result<Run<'a>> {
+    if run.name == name {
         return Ok(run);
     }
-    print_count(list, run, out)?;
+    print_count(run, out)?;
     Ok(run.named(name))
 }
 
-fn replayed(line: &[u8], run: Run, out: &mut impl Write) -> io::Result<Run> {
+fn replayed<'a>(
+    line: &[u8],
+    number: u64,
+    run: Run<'a>,
+    out: &mut impl Write,
+) -> io::Result<Run<'a>> {
     let same = calls::holds(line);
     if !same {
-        print_number(out, b"line ", run.line, b" differs\n")?;
+        writeln!(out, "line {number} differs")?;
     }
     Ok(run.counted(same))
 }
 
 // NAME COUNT
-fn print_count(list: &[u8], run: Run, out: &mut impl Write) -> io::Result<()> {
+fn print_count(run: Run, out: &mut impl Write) -> io::Result<()> {
     if run.count == 0 {
         return Ok(());
     }
-    let name = run.name;
-    print(out, wire::part_of(list, name))?;
-    print_number(out, b" ", run.count, b"\n")
+    print(out, run.name)?;
+    writeln!(out, " {}", run.count)
 }
 
 // replayed LINES, COUNT differ
 pub(crate) fn report(run: Run, out: &mut impl Write) -> io::Result<()> {
-    print_number(out, b"replayed ", run.lines, b", ")?;
-    print_number(out, b"", run.differ, b" differ\n")
-}
-
-fn print_number(out: &mut impl Write, before: &[u8], n: u64, after: &[u8]) -> io::Result<()> {
-    let mut digits = Buffer::new();
-    print(out, before)?;
-    print(out, digits.format(n).as_bytes())?;
-    print(out, after)
+    writeln!(out, "replayed {}, {} differ", run.lines, run.differ)
 }
 
 pub(crate) fn print(out: &mut impl Write, text: &[u8]) -> io::Result<()> {

@@ -19,7 +19,7 @@ pub(crate) fn room_in_packets(line: &[u8], input: &[u8], out: &mut [u8]) -> usiz
 fn tell_room(room: Result<usize, Refusal>, out: &mut [u8]) -> usize {
     match room {
         Ok(n) => told::number(out, 0, n as u64),
-        Err(refusal) => told::refused(out, 0, refusal.number()),
+        Err(refusal) => told::refused(out, 0, refusal),
     }
 }
 
@@ -28,7 +28,7 @@ pub(crate) fn fits(input: &[u8], out: &mut [u8]) -> usize {
     match fit::check(input) {
         Ok(None) => told::word(out, 0, b"fits"),
         Ok(Some(misfit)) => tell_misfit(misfit, out),
-        Err(refusal) => told::refused(out, 0, refusal.number()),
+        Err(refusal) => told::refused(out, 0, refusal),
     }
 }
 

@@ -1,6 +1,7 @@
 // What a call answered, as the list writes it: words with a space between them, to a lent buffer from a place on.
 // Each function answers the place after its word.
 use itoa::Buffer;
+use refusals::Refusal;
 
 // A word as it is.
 pub(crate) fn word(out: &mut [u8], at: usize, bytes: &[u8]) -> usize {
@@ -43,8 +44,8 @@ pub(crate) fn words(out: &mut [u8], at: usize, name: &[u8], values: &[u64]) -> u
 }
 
 // A refusal by its number.
-pub(crate) fn refused(out: &mut [u8], at: usize, refusal: u8) -> usize {
-    words(out, at, b"refused", &[refusal as u64])
+pub(crate) fn refused(out: &mut [u8], at: usize, refusal: Refusal) -> usize {
+    words(out, at, b"refused", &[refusal.number() as u64])
 }
 
 // The value of a test: 1 or 0.

@@ -1,62 +1,41 @@
 // The words of a line, and what they stand for. A word ends at a space, and the words of an answer follow `=`.
 // Bytes are digits in pairs; `DIGITS*COUNT` stands for the digits so many times, and `,` joins such runs. `-` is none.
-use wire::Part;
 
-// How many bytes stand at a place before the next mark, or before the end.
-pub(crate) fn span(s: &[u8], from: usize, mark: u8) -> usize {
-    let len = wire::left(s, from);
-    let rest = wire::part_of(s, Part { start: from, len });
-    for (n, byte) in rest.iter().enumerate() {
-        if *byte == mark {
-            return n;
-        }
+// The bytes before the first mark.
+pub(crate) fn before(s: &[u8], mark: u8) -> &[u8] {
+    match s.iter().position(|byte| *byte == mark) {
+        Some(at) => &s[..at],
+        None => s,
     }
-    len
 }
 
-// The bytes at a place before the next mark.
-pub(crate) fn piece(s: &[u8], from: usize, mark: u8) -> &[u8] {
-    let len = span(s, from, mark);
-    wire::part_of(s, Part { start: from, len })
-}
-
-// The place after the next mark, or the end.
-pub(crate) fn past(s: &[u8], from: usize, mark: u8) -> usize {
-    let n = span(s, from, mark);
-    if wire::left(s, from) <= n {
-        return s.len();
+// The bytes after the first mark.
+fn after(s: &[u8], mark: u8) -> &[u8] {
+    match s.iter().position(|byte| *byte == mark) {
+        Some(at) => &s[at + 1..],
+        None => &[],
     }
-    from + n + 1
 }
 
 // A word of a line by its number; the first, which is the function's name, is 0.
 pub(crate) fn word(line: &[u8], number: usize) -> &[u8] {
-    let mut at = 0;
-    for _ in 0..number {
-        at = past(line, at, b' ');
+    match line.split(|byte| *byte == b' ').nth(number) {
+        Some(found) => found,
+        None => &[],
     }
-    piece(line, at, b' ')
 }
 
 // The answer that a line holds: what follows `= `.
 pub(crate) fn answer(line: &[u8]) -> &[u8] {
-    let sign = past(line, 0, b'=');
-    let start = past(line, sign, b' ');
-    let len = wire::left(line, start);
-    wire::part_of(line, Part { start, len })
+    after(after(line, b'='), b' ')
 }
 
 // The number of decimal digits, modulo 2^64.
 pub(crate) fn number(digits: &[u8]) -> u64 {
-    let mut n = 0;
-    for byte in digits {
-        n = ten_times(n).wrapping_add(digit(*byte) as u64);
-    }
-    n
-}
-
-fn ten_times(n: u64) -> u64 {
-    n.wrapping_mul(10)
+    digits.iter().fold(
+        0u64,
+        |n, byte| n.wrapping_mul(10).wrapping_add(u64::from(digit(*byte))),
+    )
 }
 
 // The value of a digit, upper-case where it is a letter; 0 for what is none.
@@ -95,22 +74,19 @@ pub(crate) fn bytes_at(line: &[u8], place: usize, space: &mut [u8]) -> usize {
 }
 
 pub(crate) fn bytes(runs: &[u8], space: &mut [u8]) -> usize {
-    let mut from = 0;
     let mut at = 0;
-    for _ in 0..runs.len() {
-        at = put_run(piece(runs, from, b','), space, at);
-        from = past(runs, from, b',');
+    for run in runs.split(|byte| *byte == b',') {
+        at = put_run(run, space, at);
     }
     at
 }
 
 fn put_run(run: &[u8], space: &mut [u8], at: usize) -> usize {
-    let digits = piece(run, 0, b'*');
+    let digits = before(run, b'*');
     if digits.len() == run.len() {
         return put_pairs(digits, space, at);
     }
-    let count = number(piece(run, past(run, 0, b'*'), b'*'));
-    put_times(digits, count, space, at)
+    put_times(digits, number(after(run, b'*')), space, at)
 }
 
 fn put_times(digits: &[u8], count: u64, space: &mut [u8], from: usize) -> usize {
@@ -123,14 +99,12 @@ fn put_times(digits: &[u8], count: u64, space: &mut [u8], from: usize) -> usize 
 
 fn put_pairs(digits: &[u8], space: &mut [u8], from: usize) -> usize {
     let mut at = from;
-    let mut i = 0;
-    while 2 <= wire::left(digits, i) {
-        at = wire::put_u8(space, at, pair(digits[i], digits[i + 1]));
-        i += 2;
+    for pair in digits.chunks_exact(2) {
+        at = wire::put_u8(space, at, byte(pair[0], pair[1]));
     }
     at
 }
 
-fn pair(high: u8, low: u8) -> u8 {
+fn byte(high: u8, low: u8) -> u8 {
     digit(high) % 16 * 16 + digit(low) % 16
 }

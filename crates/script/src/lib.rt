@@ -96,7 +96,7 @@ fn is_allowed(stage: Stage, kind: u16) -> bool
 {
     match stage {
         Stage::Start => kind == SET,
-        Stage::Columns => (kind == COLUMN) | (kind == LEADING_ERROR) | after_leading(kind),
+        Stage::Columns => matches!(kind, COLUMN | LEADING_ERROR) | after_leading(kind),
         Stage::Leading => after_leading(kind),
         Stage::Infos => after_info(kind),
         Stage::Rows => after_cell(kind),
@@ -116,14 +116,14 @@ fn after_leading(kind: u16) -> bool
 fn after_info(kind: u16) -> bool
     ensures { result ≡ allowed stages.Infos kind }
 {
-    (kind == INFO) | (kind == ROW) | (kind == SET) | (kind == TRAILING_INFO)
+    matches!(kind, INFO | ROW | SET | TRAILING_INFO)
 }
 
 // Whether a kind may follow a row or a cell without chunks.
 fn after_cell(kind: u16) -> bool
     ensures { result ≡ allowed stages.Rows kind }
 {
-    (kind == CELL) | (kind == ROW) | (kind == SET) | (kind == TRAILING_INFO)
+    matches!(kind, CELL | ROW | SET | TRAILING_INFO)
 }
 
 // The stage after a cell of a value.
