@@ -88,10 +88,7 @@ fn turn(list: &[u8], run: Run, out: &mut impl Write) -> io::Result<Run> {
 }
 
 fn is_comment(line: &[u8]) -> bool {
-    if line.len() == 0 {
-        return true;
-    }
-    line[0] == b'#'
+    line.is_empty() || line[0] == b'#'
 }
 
 // The count of a function's lines ends where another's begin.
