@@ -119,7 +119,7 @@ fn packet_at(lent: &[u8], at: usize, number: usize, ended: bool) -> Result<Next,
     };
     Ok(Next {
         len: length - PACKET_HEADER_SIZE,
-        last: PacketStatus(wire::get_u8(rest, 1)).is_end_of_message(),
+        last: PacketStatus::is_end_of_message(PacketStatus(wire::get_u8(rest, 1))),
     })
 }
 
