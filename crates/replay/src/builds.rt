@@ -12,7 +12,8 @@ pub(crate) fn holds(line: &[u8], name: &[u8]) -> bool {
     match build(line, name, &mut buf[..lent]) {
         Some(Ok(len)) => is_written(line, &buf, len),
         Some(Err(refusal)) => is_refused(line, &buf, refusal),
-        None => false,
+        // No refusal has this number.
+        None => words::answer(line) == b"refused 255".as_slice(),
     }
 }
 

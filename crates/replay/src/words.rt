@@ -86,7 +86,7 @@ fn put_run(run: &[u8], space: &mut [u8], at: usize) -> usize {
     if digits.len() == run.len() {
         return put_pairs(digits, space, at);
     }
-    put_times(digits, number(after(run, b'*')), space, at)
+    put_times(digits, number(before(after(run, b'*'), b'*')), space, at)
 }
 
 fn put_times(digits: &[u8], count: u64, space: &mut [u8], from: usize) -> usize {
