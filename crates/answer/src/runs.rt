@@ -39,34 +39,28 @@ pub(crate) fn once<R: Read, W: Write>(
     }
 }
 
-// Where a run over many inputs stands: the length of the next input, if there is one.
-#[derive(Clone, Copy)]
-struct Run {
-    len: u32,
-    more: bool,
-}
-
 // An answer and an empty line for each input. Nothing says that what is read ends, and a proved loop does: no run has so
-// many turns.
+// many turns. A run goes on while the length of a next input is there.
 pub(crate) fn many<R: Read, W: Write>(
     call: Call,
     from: &mut R,
     input: &mut [u8],
     out: &mut W,
 ) -> io::Result<()> {
-    let mut run = first(from, input)?;
+    let mut next = next_length(from, input)?;
     for _ in 0..u64::MAX {
-        if !run.more {
+        let Some(len) = next else {
             break;
-        }
-        run = turn(call, from, input, out, run)?;
+        };
+        next = turn(call, from, input, out, len)?;
     }
     Ok(())
 }
 
-fn first<R: Read>(from: &mut R, input: &mut [u8]) -> io::Result<Run> {
+// The length of the next input, if it is there whole.
+fn next_length<R: Read>(from: &mut R, input: &mut [u8]) -> io::Result<Option<u32>> {
     let got = read_up_to(from, input, 4)?;
-    Ok(next(input, 0, got == 4))
+    Ok(length_at(input, 0, got == 4))
 }
 
 fn turn<R: Read, W: Write>(
@@ -74,13 +68,12 @@ fn turn<R: Read, W: Write>(
     from: &mut R,
     input: &mut [u8],
     out: &mut W,
-    run: Run,
-) -> io::Result<Run> {
-    let len = run.len;
+    len: u32,
+) -> io::Result<Option<u32>> {
     if len as usize <= most(call) {
-        one(call, from, input, out, run)
+        one(call, from, input, out, len)
     } else {
-        over(from, input, out, run)
+        over(from, input, out, len)
     }
 }
 
@@ -90,17 +83,17 @@ fn one<R: Read, W: Write>(
     from: &mut R,
     input: &mut [u8],
     out: &mut W,
-    run: Run,
-) -> io::Result<Run> {
-    let len = run.len as usize;
+    len: u32,
+) -> io::Result<Option<u32>> {
+    let len = len as usize;
     let end = len + 4;
     let got = read_up_to(from, input, end)?;
     if got < len {
-        return Ok(stopped());
+        return Ok(None);
     }
     calls::answer(call, wire::part_of(input, Part { start: 0, len }), out)?;
     lines::end(out)?;
-    Ok(next(input, len, got == end))
+    Ok(length_at(input, len, got == end))
 }
 
 // An input over the most bytes of its call, which is passed over.
@@ -108,33 +101,22 @@ fn over<R: Read, W: Write>(
     from: &mut R,
     input: &mut [u8],
     out: &mut W,
-    run: Run,
-) -> io::Result<Run> {
-    if !pass_over(from, input, run.len as usize)? {
-        return Ok(stopped());
+    len: u32,
+) -> io::Result<Option<u32>> {
+    if !pass_over(from, input, len as usize)? {
+        return Ok(None);
     }
     lines::refused(out, Refusal::InputTooLong)?;
     lines::end(out)?;
-    let got = read_up_to(from, input, 4)?;
-    Ok(next(input, 0, got == 4))
+    next_length(from, input)
 }
 
-// The run goes on with the length that stands at a place of the buffer, if it is whole.
-fn next(input: &[u8], place: usize, whole: bool) -> Run {
+// The length that stands at a place of the buffer, if it is whole.
+fn length_at(input: &[u8], place: usize, whole: bool) -> Option<u32> {
     if whole {
-        Run {
-            len: wire::get_u32_le(input, place),
-            more: true,
-        }
+        Some(wire::get_u32_le(input, place))
     } else {
-        stopped()
-    }
-}
-
-fn stopped() -> Run {
-    Run {
-        len: 0,
-        more: false,
+        None
     }
 }
 

@@ -14,7 +14,8 @@ ghost use Rattle.script.specs.Verdict.{all_well_formed, fault_of, end_fault, che
 use refusals::Refusal;
 use wire::Part;
 
-// What stands at a place: a record, whose payload starts at start and has len bytes, one that is cut, or the end.
+// What stands at a place: a record, whose payload starts at start and has len bytes, one that is cut, or the end. Three cases, as
+// every walk has an arm for each: as an Option of a Result the matches would be nested.
 #[derive(Clone, Copy)]
 pub enum Found {
     Record { kind: u16, start: usize, len: usize },
