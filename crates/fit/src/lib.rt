@@ -36,6 +36,7 @@ const MOST_COLUMNS: usize = 128;
 const MOST_TEXT: usize = 8000;
 
 // Whether a cell is of a column's type.
+#[tactic(auto, unfolding(crate::specs::Misfits::cell_fits))]
 fn cell_fits(data_type: u8, p: &[u8]) -> bool
     ensures { result ≡ cell_fits data_type p.now }
 {
@@ -55,7 +56,7 @@ fn cell_fits(data_type: u8, p: &[u8]) -> bool
 fn walk_row(s: &[u8], from: usize, types: &[u8]) -> Result<usize, usize>
     ensures { RowWalked s.now from types.now result }
 {
-    if types.len() == 0 {
+    if types.is_empty() {
         return Err(0);
     }
     let mut at = from;
@@ -85,16 +86,18 @@ fn walk_row(s: &[u8], from: usize, types: &[u8]) -> Result<usize, usize>
 }
 
 // Whether a cell is a misfit: there is no column for it, or it is not of its column's type.
+#[tactic(auto, unfolding(crate::specs::Walks::cell_wrong))]
 fn cell_wrong(types: &[u8], column: usize, p: &[u8]) -> bool
     ensures { result ≡ cell_wrong (drop column types.now) p.now }
 {
-    if types.len() <= column {
-        return true;
+    match types.get(column) {
+        None => true,
+        Some(data_type) => !cell_fits(*data_type, p),
     }
-    !cell_fits(types[column], p)
 }
 
 // At the end of a row that is right so far, of so many cells: wrong where there are more columns.
+#[tactic(auto, unfolding(crate::specs::Walks::row_end))]
 fn row_end(cells: usize, columns: usize, at: usize) -> Result<usize, usize>
     ensures { result ≡ row_end cells columns at }
 {
@@ -175,7 +178,7 @@ fn walk_rows(s: &[u8], set: usize, from: usize, types: &[u8]) -> Result<usize, M
 fn walk_set(s: &[u8], set: usize, classification: &[u8], from: usize) -> Result<usize, Misfit>
     ensures { SetWalked s.now set from (set_from set classification.now (records (drop from s.now))) result }
 {
-    if classification.len() != 0 {
+    if !classification.is_empty() {
         return Err(Misfit::Classification { set });
     }
     let mut types = [0u8; MOST_COLUMNS];
@@ -234,6 +237,7 @@ fn is_terminal(s: &[u8]) -> bool
 }
 
 // The first misfit of a script that is not refused; none where it fits.
+#[tactic(auto, unfolding(crate::specs::Records::misfits_in))]
 fn first_misfit(s: &[u8]) -> Option<Misfit>
     ensures { result ≡ first_of (misfits_in (records s.now)) }
 {

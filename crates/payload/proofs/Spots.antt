@@ -12,6 +12,11 @@ use Rattle.payload.specs.declared.frames.Frame.{Frame}
 use Rattle.payload.specs.declared.frames.Next.{Next}
 use Rattle.payload.specs.declared.frames.Spotted.{Spotted}
 use Rattle.std.specs.Prelude.{Result, Ok, Err}
+use Rattle.std.specs.Result.{MatchResult, IsErrAnd}
+use Rattle.refusals.specs.declared.Refusal.{Refusal}
+use Rattle.refusals.specs.Refused.{number}
+use Rattle.payload.specs.declared.frames.Stop as code
+use Rattle.payload.specs.Stopped.{stop_by}
 use Rattle.payload.specs.Packets.{Packets, packet, stop, Stop, next_of, packets_in, payload_of, source_of}
 use Rattle.payload.specs.Positions.{Placed, at, refused, lost_at, place_from, place_in, Corner, corner_from, corner_of}
 use Rattle.payload.specs.Frames.{lies, beyond, source_from, framed, frame_of, within_frame, spot_from, spot_in, reach_from, reach_of}
@@ -146,6 +151,21 @@ module _ {l : List ℕ} {n place start to number : ℕ} {last : Bool} (w : Walki
       let g : Frame = record { base = to - 8 * number; end = to - 8 * number + p.len; number = number + 1; last = p.last } in
       let e : between to (to + 8 + p.len) (number + 1) p.last ≡ g = frame_is g (omega arith) (omega arith) refl in
       record { some = omega arith; from = omega arith; past = omega arith; walked = rw e (walk-on n place w.walked h (onto-of (walking_after q))) }
+
+-- ---- the refusal of a position past what stops the packets
+
+abbrev Lost : code.Stop → Refusal → Type 0
+Lost s r = number r ≡ lost_at (stop_by s)
+
+module _ {A : Type 0} {m : Result A Refusal} where
+  pub held-of : (r : Result A code.Stop) {x : A} → MatchResult r (λ a. m ≡ Ok a) (λ s. IsErrAnd m (Lost s)) → m ≡ Ok x → r ≡ Ok x
+  held-of (Ok a) h e = cc
+  held-of (Err s) h e = absurd (rw e at h)
+
+  pub lost-of : (r : Result A code.Stop) {y : Refusal} → MatchResult r (λ a. m ≡ Ok a) (λ s. IsErrAnd m (Lost s)) → m ≡ Err y
+      → (s : code.Stop) × (r ≡ Err s) × (number y ≡ lost_at (stop_by s))
+  lost-of (Ok a) h e = clash (cc)
+  lost-of (Err s) h e = (s, refl, rw e at h)
 
 -- ---- what stands at a position
 

@@ -183,6 +183,7 @@ pub(crate) fn first(lent: &[u8]) -> Result<Frame, Stop>
 }
 
 // The packet after a frame's.
+#[tactic(auto, using(crate::proofs::Onto::lying))]
 pub(crate) fn onward(lent: &[u8], frame: Frame) -> Result<Frame, Stop>
     requires { lies lent.now frame ≡ true }
     ensures { stopped result ≡ moved_of lent.now frame }
@@ -199,28 +200,22 @@ pub(crate) fn onward(lent: &[u8], frame: Frame) -> Result<Frame, Stop>
 }
 
 // The payload place of a position's packet and place in it: the headers up to that packet are tested, each once.
+#[tactic(auto, using(crate::proofs::Onto::lying))]
 pub fn resolve(lent: &[u8], packet: usize, place: usize) -> Result<Spotted, Refusal>
     ensures { numbered result ≡ spot_in (packets_in lent.now) packet place }
 {
-    let front = match first(lent) {
-        Ok(front) => front,
-        Err(stop) => return Err(stop.lost()),
-    };
+    let front = first(lent).map_err(Stop::lost)?;
     // A packet is known here by the index of its header and that of the next one.
     let mut start = 0;
     let mut at = front.end + PACKET_HEADER_SIZE;
     let mut number = 1;
     let mut last = front.last;
     while number < packet {
-        match packet_at(lent, at, number + 1, last) {
-            Ok(next) => {
-                start = at;
-                at = at + PACKET_HEADER_SIZE + next.len;
-                number += 1;
-                last = next.last;
-            },
-            Err(stop) => return Err(stop.lost()),
-        }
+        let next = packet_at(lent, at, number + 1, last).map_err(Stop::lost)?;
+        start = at;
+        at = at + PACKET_HEADER_SIZE + next.len;
+        number += 1;
+        last = next.last;
     }
     if packet == 0 {
         return Err(Refusal::Cut);

@@ -15,8 +15,7 @@ ghost use Rattle.reader.specs.Code.{token_read};
 ghost use Rattle.reader.specs.Spots.{holding, held_in, spot_after, stands_by, next_by, got_in, got_end, got_of, cell_token};
 
 use cells::Value;
-use payload::frames::Frame;
-use payload::{frames, minus};
+use payload::frames::{self, Frame};
 use refusals::Refusal;
 use token_reader::TokenAt;
 use wire::Part;
@@ -126,7 +125,7 @@ impl Position {
             Ok(Some(got)) => {
                 let next = spot_after(at, got.token, got.packet, got.place);
                 if let Token::Column { code, limit, .. } = got.token {
-                    let i = minus(at.count, at.columns_left);
+                    let i = at.count.saturating_sub(at.columns_left);
                     if i < MAX_COLUMNS {
                         types[i] = code;
                         limits[i] = limit;
@@ -203,7 +202,7 @@ fn got_to(packets: &[u8], frame: Frame, token: Token, next: usize) -> Got
     Got {
         token,
         packet: here.number,
-        place: packet::PACKET_HEADER_SIZE + minus(next, here.base),
+        place: packet::PACKET_HEADER_SIZE + next.saturating_sub(here.base),
     }
 }
 
@@ -240,8 +239,8 @@ fn held_in<'a>(at: Spot, types: &'a [u8; 128], limits: &'a [u16; 128]) -> HeldTy
     requires { (length types.now ≡ 128) × (length limits.now ≡ 128) }
     ensures { result ≡ held_in (holding at types.now limits.now) }
 {
-    let sound = are_types(types, limits, minus(at.count, at.columns_left));
-    let i = minus(at.count, at.cells_left);
+    let sound = are_types(types, limits, at.count.saturating_sub(at.columns_left));
+    let i = at.count.saturating_sub(at.cells_left);
     if i < MAX_COLUMNS {
         return HeldTypes {
             sound,
@@ -321,13 +320,13 @@ pub fn spot_after(at: Spot, token: Token, packet: usize, place: usize) -> Spot
             next.columns_left = n as usize;
         },
         Token::Column { .. } => {
-            next.columns_left = minus(at.columns_left, 1);
+            next.columns_left = at.columns_left.saturating_sub(1);
         },
         Token::Row => {
             next.cells_left = at.count;
         },
         Token::Cell(_) => {
-            next.cells_left = minus(at.cells_left, 1);
+            next.cells_left = at.cells_left.saturating_sub(1);
         },
         Token::Done { status, .. } => {
             next.count = 0;

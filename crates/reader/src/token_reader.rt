@@ -12,7 +12,7 @@ ghost use Rattle.reader.specs.Code.{token_read, texts_read};
 use crate::{MAX_COLUMNS, Token};
 use cells::type_at;
 use payload::frames::Frame;
-use payload::{NumberAt, PartAt, minus, part_at, u8_at, u16_at, u32_at, u64_at};
+use payload::{NumberAt, PartAt, part_at, u8_at, u16_at, u32_at, u64_at};
 use refusals::Refusal;
 use wire::Part;
 
@@ -176,10 +176,17 @@ fn texts_at(lent: &[u8], frame: Frame, at: usize, room: usize) -> Result<TextsAt
 {
     let message = text_at(lent, frame, at, 2, room, TWO_NAMES)?;
     let text = message.part;
-    let room = minus(room, text.len);
+    let room = room.saturating_sub(text.len);
     let name = text_at(lent, frame, message.next, 1, room, ONE_NAME)?;
     let server = name.part;
-    let last = text_at(lent, frame, name.next, 1, minus(room, server.len), 0)?;
+    let last = text_at(
+        lent,
+        frame,
+        name.next,
+        1,
+        room.saturating_sub(server.len),
+        0,
+    )?;
     let line = u32_at(lent, frame, last.next)?;
     Ok(TextsAt {
         texts: Texts {
@@ -228,5 +235,5 @@ fn units_at(lent: &[u8], frame: Frame, at: usize, k: usize) -> Result<NumberAt, 
 fn leaves(len: usize, room: usize, most: usize) -> bool
     ensures { result ≡ (leb len room && leb (room - len) most) }
 {
-    (len <= room) & (minus(room, len) <= most)
+    (len <= room) & (room.saturating_sub(len) <= most)
 }

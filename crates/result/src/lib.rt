@@ -245,11 +245,7 @@ fn put_turn(
             let a = token::put_done(buf, at, MORE, rows);
             put_set(buf, a, s, p, next)
         }
-        script::INFO => Placed {
-            place: put_info(buf, at, p),
-            next,
-        },
-        script::TRAILING_INFO => Placed {
+        script::INFO | script::TRAILING_INFO => Placed {
             place: put_info(buf, at, p),
             next,
         },
@@ -263,6 +259,7 @@ fn put_turn(
 }
 
 // The rows of a set after a record.
+#[tactic(auto, unfolding(emission::specs::Walk::rows_after))]
 fn rows_after(rows: u64, kind: u16) -> u64
     requires { rows + 1 < 2 ^ 64 }
     ensures { (result ≡ rows_after rows kind) × (result ≤ rows + 1) }
@@ -427,6 +424,7 @@ pub fn build_query_results_in_packets(
 }
 
 // The room for a script's reply as one packet, exactly its length: what its builder answers where enough is lent.
+#[tactic(auto, unfolding(crate::specs::Built::room_of, emission::specs::Length::measure_of))]
 pub fn room_estimate(script: &[u8]) -> Result<usize, Refusal>
     ensures { numbered result ≡ room_of script.now }
 {

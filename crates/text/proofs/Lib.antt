@@ -1,3 +1,4 @@
 pub mod Scan
 pub mod Spans
 pub mod Trims
+pub mod Twos

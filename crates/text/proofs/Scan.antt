@@ -1,61 +1,15 @@
--- The units of a text from a place on, and what one turn of a loop over them leaves to be said of the rest.
--- Assumes nothing.
+-- Surrogates after a high one, and the units of a text by number. Assumes nothing.
 use mathlib.Core.Path.{◌≡◌, refl}
 use mathlib.Core.List.{List, [], ◌∷◌}
 use mathlib.Core.Bool.{Bool, true, false, not}
-use Prim.Native.Nat.{ℕ, zero, suc, ◌+◌, ◌*◌, ◌/◌, ◌≤◌, ◌<◌}
-use native.Mathlib.Nat.{add_assoc, add-zero}
+use Prim.Native.Nat.{ℕ, zero, suc, ◌*◌, ◌/◌}
 use native.Mathlib.Omega.{arith}
-use lib.ListN.{length, drop, get_or, length-drop}
-use lib.Seq.{drop-drop, drop-nil, drop-cons}
-use Rattle.wire.specs.Le.{le_at}
-use Rattle.wire.proofs.Le.{le_bytes}
-use Rattle.text.specs.Units.{units_of, units, total}
-use Rattle.text.specs.Surrogates.{surrogate_of, surrogates, paired}
+use lib.ListN.{length, drop}
+use lib.Seq.{drop-nil}
+use Rattle.text.specs.Units.{units_of, units}
+use Rattle.text.specs.Surrogates.{paired}
 use Rattle.text.specs.declared.Surrogate.{Surrogate}
 use Rattle.text.specs.declared.Surrogate.TheVariants.{High}
-
-first-unit : (l : List ℕ) → 1 < length l → units_of l ≡ le_at 2 l ∷ units_of (drop 2 l)
-unfolding units_of le_at
-first-unit [] h = absurd (omega arith)
-first-unit (a ∷ []) h = absurd (omega arith)
-first-unit (a ∷ b ∷ l) h = refl
-
-none_left : (l : List ℕ) → length l ≤ 1 → units_of l ≡ []
-unfolding units_of
-none_left [] h = refl
-none_left (a ∷ []) h = refl
-none_left (a ∷ b ∷ l) h = absurd (omega arith)
-
-module _ (s : List ℕ) (at : ℕ) where
-  -- The unit u of the two bytes at a place stands before the units from the second next place on ..
-  pub unit-at : {u : ℕ} → at + 1 < length s → u ≡ le_at 2 (get_or s at 0 ∷ get_or s (at + 1) 0 ∷ []) → units_of (drop at s) ≡ u ∷ units_of (drop (at + 2) s)
-  unit-at h e =
-      rw (e, ← le_bytes 1 at s (omega arith), ← drop-drop 2 at s) (first-unit (drop at s) (simp length-drop (omega arith)))
-
-  -- .. and where fewer than two bytes are left, there is none
-  pub no-unit : length s ≤ at + 1 → units_of (drop at s) ≡ []
-  no-unit h = none_left (drop at s) (simp length-drop (omega arith))
-
-  -- a sum over units, with what has been summed before this one
-  pub summed : (count : ℕ → ℕ) (n : ℕ) {u w t : ℕ} → units_of (drop at s) ≡ u ∷ units_of (drop (at + 2) s) → w ≡ count u
-      → n + total count (units_of (drop at s)) ≡ t → n + w + total count (units_of (drop (at + 2) s)) ≡ t
-  unfolding total
-  summed count n e f g = rw (f, add_assoc n) (rw e at g)
-
-  pub summed-all : (count : ℕ → ℕ) (n : ℕ) {t : ℕ} → length s ≤ at + 1 → n + total count (units_of (drop at s)) ≡ t → n ≡ t
-  unfolding total
-  summed-all count n h g = rw add-zero at (rw (no-unit h) at g)
-
-  -- what a unit is
-  pub kind_at : {u : ℕ} {k v : Surrogate} → units_of (drop at s) ≡ u ∷ units_of (drop (at + 2) s) → k ≡ surrogate_of u → k ≡ v
-      → surrogates (drop at s) ≡ v ∷ surrogates (drop (at + 2) s)
-  unfolding surrogates
-  kind_at e f g = rw (e, ← f, g)
-
-  pub no_kind : length s ≤ at + 1 → surrogates (drop at s) ≡ []
-  unfolding surrogates
-  no_kind h = rw (no-unit h)
 
 -- surrogates after a high one, or not after one
 abbrev pub after : Bool → List Surrogate → List Surrogate
@@ -89,7 +43,3 @@ units-from (suc n) (a ∷ []) =
     let e : 2 * suc n ≡ suc (suc (2 * n)) = omega arith in rw (e, drop-nil (suc (2 * n)))
 units-from (suc n) (a ∷ b ∷ l) =
     let e : 2 * suc n ≡ suc (suc (2 * n)) = omega arith in rw e (units-from n l)
-
--- unit number n
-pub unit-number : (n : ℕ) (s : List ℕ) {u : ℕ} {us : List ℕ} → n < length (units_of s) → units_of (drop (2 * n) s) ≡ u ∷ us → get_or (units_of s) n 0 ≡ u
-unit-number n s h e = cc (units-from n s, drop-cons (units_of s) n 0 h)

@@ -2,8 +2,9 @@
 // A text is any bytes: two are a unit, the lower first, and an odd last byte belongs to none.
 #![tactic(auto)]
 
-ghost use Rattle.std.specs.Prelude.{ℕ, ◌≡◌, ◌∷◌, ◌+◌, ◌*◌, ◌≤◌, ◌<◌, length, drop};
+ghost use Rattle.std.specs.Prelude.{ℕ, ◌≡◌, ◌*◌, ◌/◌, ◌≤◌, ◌<◌, length, map};
 ghost use Rattle.refusals.specs.Refused.{refused_by};
+ghost use Rattle.wire.specs.Le.{le_at};
 ghost use Rattle.text.specs.Units.{units_of, units, total};
 ghost use Rattle.text.specs.Surrogates.{surrogate_of, well_formed, has_pair, characters_in, characters, utf8_in, utf8_length};
 ghost use Rattle.text.specs.Space.{is_whitespace};
@@ -14,7 +15,7 @@ use refusals::Refusal;
 use wire::Part;
 
 // What a unit is: half of a surrogate pair, the high one or the low one, or a character of its own.
-#[derive(Clone, Copy, PartialEq, Eq)]
+#[derive(Clone, Copy)]
 pub enum Surrogate {
     Plain,
     High,
@@ -31,12 +32,19 @@ pub fn surrogate_of(u: u16) -> Surrogate
     }
 }
 
-// The unit at a place: the first of those from there on.
-fn unit(s: &[u8], at: usize) -> u16
-    requires { at + 1 < length s.now }
-    ensures { units_of (drop at s.now) ≡ result ∷ units_of (drop (at + 2) s.now) }
+// The units of a text, each as its two bytes.
+fn pairs(s: &[u8]) -> &[[u8; 2]]
+    ensures value { map (le_at 2) result.now ≡ units_of s.now }
+    ensures len { length result.now ≡ length s.now / 2 }
 {
-    wire::u16_from_le_bytes(s[at], s[at + 1])
+    s.as_chunks().0
+}
+
+// The unit that two bytes are, the lower first.
+fn unit(pair: &[u8; 2]) -> u16
+    ensures { result ≡ le_at 2 pair.now }
+{
+    u16::from_le_bytes(*pair)
 }
 
 // Whether a text is UTF-16: an even number of bytes, and surrogates in pairs.
@@ -46,31 +54,26 @@ pub fn is_well_formed(s: &[u8]) -> bool
     if s.len() % 2 != 0 {
         return false;
     }
-    let mut at: usize = 0;
     let mut high = false;
-    while at + 1 < s.len() {
-        let next = at + 2;
-        let kind = surrogate_of(unit(s, at));
-        match kind {
+    let units = pairs(s);
+    for pair in units {
+        match surrogate_of(unit(pair)) {
             Surrogate::Plain => {
                 if high {
                     return false;
                 }
-                at = next;
             }
             Surrogate::High => {
                 if high {
                     return false;
                 }
                 high = true;
-                at = next;
             }
             Surrogate::Low => {
                 if !high {
                     return false;
                 }
                 high = false;
-                at = next;
             }
         }
     }
@@ -81,17 +84,11 @@ pub fn is_well_formed(s: &[u8]) -> bool
 pub fn has_pair(s: &[u8]) -> bool
     ensures { result ≡ has_pair s.now }
 {
-    let mut at: usize = 0;
-    while at + 1 < s.len() {
-        let next = at + 2;
-        let kind = surrogate_of(unit(s, at));
-        match kind {
-            Surrogate::High => {
-                return true;
-            }
-            Surrogate::Plain | Surrogate::Low => {
-                at = next;
-            }
+    let units = pairs(s);
+    for pair in units {
+        match surrogate_of(unit(pair)) {
+            Surrogate::High => return true,
+            Surrogate::Plain | Surrogate::Low => {}
         }
     }
     false
@@ -125,10 +122,9 @@ fn total<F: Fn(u16) -> usize>(s: &[u8], count: F) -> usize
     ensures { result ≡ total counted (units_of s.now) }
 {
     let mut n: usize = 0;
-    let mut at: usize = 0;
-    while at + 1 < s.len() {
-        n += count(unit(s, at));
-        at += 2;
+    let units = pairs(s);
+    for pair in units {
+        n += count(unit(pair));
     }
     n
 }
@@ -185,28 +181,21 @@ pub fn trimmed(s: &[u8]) -> Part
 fn trim_start(s: &[u8]) -> usize
     ensures { (result ≡ 2 * leading (units_of s.now)) × (result ≤ length s.now) }
 {
-    let mut at: usize = 0;
-    while at + 1 < s.len() {
-        let next = at + 2;
-        if !is_whitespace(unit(s, at)) {
-            return at;
-        }
-        at = next;
-    }
-    at
+    let units = pairs(s);
+    let blank = units.iter().position(|pair| !is_whitespace(unit(pair)));
+    2 * blank.unwrap_or(units.len())
 }
 
 // Where a text ends without the white space at its end.
 fn trim_end(s: &[u8]) -> usize
     ensures { result ≡ 2 * kept (units_of s.now) }
 {
-    let mut n = s.len() / 2;
-    while 0 < n {
-        let last = 2 * (n - 1);
-        if !is_whitespace(unit(s, last)) {
-            return 2 * n;
+    let mut units = pairs(s);
+    while let Some((pair, before)) = units.split_last() {
+        if !is_whitespace(unit(pair)) {
+            return 2 * units.len();
         }
-        n -= 1;
+        units = before;
     }
     0
 }

@@ -5,16 +5,16 @@ use Rattle.fit.proofs.RowTurns.{cells_cut, cells-end, cells-other, row-none, row
 use Rattle.script.proofs.Stops.{stops}
 use Rattle.fit.proofs.Skip.{kind-is}
 use Rattle.script.proofs.Walk.{lies}
-use borrow.Author.Tests.{ne_eqb}
+use borrow.Author.Tests.{ne_eqb, eqb-true, eqb-false}
 use mathlib.Core.Path.{sym, ◌∙◌}
 use native.Mathlib.Omega.{arith}
 use Rattle.fit.proofs.walk_row.Goals as goal
 
-pub returns-then-types-eq0 : goal.returns-then-types-eq0
-returns-then-types-eq0 c = let a = c.args in row-none a.s.now a.from a.types.now c.if-types-eq0.true
+pub returns-then-is_empty : goal.returns-then-is_empty
+returns-then-is_empty c = let a = c.args in row-none a.s.now a.from a.types.now (eqb-true _ 0 (sym c.is_empty.ensures ∙ c.if-is_empty.true))
 
 pub loop-kind-init : goal.loop-kind-init
-loop-kind-init c = row-start _ _ _ c.if-types-eq0.false
+loop-kind-init c = row-start _ _ _ (eqb-false _ 0 (sym c.is_empty.ensures ∙ c.if-is_empty.false))
 
 pub returns-in-Cut : goal.returns-in-Cut
 returns-in-Cut c = let none = stops c.record_at.ensures (opened c.in-Cut.in-Cut-own.keys1) (cells_cut _ _) (cells-end _ _) in

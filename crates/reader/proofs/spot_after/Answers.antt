@@ -8,7 +8,7 @@ returns-in-ColMetadata c = rw c.in-ColMetadata.is
 
 pub returns-in-Column : goal.returns-in-Column
 unfolding after
-returns-in-Column c = rw (c.in-Column.is, c.minus.ensures)
+returns-in-Column c = rw (c.in-Column.is, c.saturating_sub.ensures)
 
 pub returns-in-Row : goal.returns-in-Row
 unfolding after
@@ -16,7 +16,7 @@ returns-in-Row c = rw c.in-Row.is
 
 pub returns-in-Cell : goal.returns-in-Cell
 unfolding after
-returns-in-Cell c = rw (c.in-Cell.is, c.minus-in-Cell.ensures)
+returns-in-Cell c = rw (c.in-Cell.is, c.saturating_sub-in-Cell.ensures)
 
 pub returns-in-Done : goal.returns-in-Done
 unfolding after

@@ -1,9 +1,12 @@
 -- `result::put_turn` meets its contract. Assumes nothing.
+use mathlib.Core.Logic.{inl, inr}
 use lib.ListN.{drop}
 use borrow.Author.Tests.{ne_eqb}
 use Rattle.script.specs.Records.{records}
 use Rattle.token.specs.Tokens.{row}
-use Rattle.emission.specs.Emission.{info_token, done_token, more_status}
+use mathlib.Core.List.{[], ◌∷◌}
+use Rattle.result.specs.Inner.{Put}
+use Rattle.emission.specs.Emission.{token_piece, bytes_in, info_token, done_token, more_status}
 use Rattle.emission.specs.Walk.{begin_pieces, pieces_of}
 use Rattle.result.proofs.Writes.{put_one, put-before, put-none}
 use Rattle.emission.proofs.Turns.{goes-here}
@@ -19,12 +22,9 @@ returns-in-1 c = let a = c.args in
 pub returns-in-3 : goal.returns-in-3
 unfolding pieces_of
 returns-in-3 c = let a = c.args in
-    rw c.in-3.is (record { wrote = put_one (info_token a.p.now) (wrote c.put_info.ensures.buf_after c.put_info.ensures.place_after); goes = goes-here a.s.now a.next c.requires.1 })
-
-pub returns-in-9 : goal.returns-in-9
-unfolding pieces_of
-returns-in-9 c = let a = c.args in
-    rw c.in-9.is (record { wrote = put_one (info_token a.p.now) (wrote c.put_info-in-9.ensures.buf_after c.put_info-in-9.ensures.place_after); goes = goes-here a.s.now a.next c.requires.1 })
+    let put : Put a.buf.now a.at (bytes_in (token_piece (info_token a.p.now) ∷ [])) c.put_info.new.buf a.s.now a.next (record { place = c.put_info.result; next = a.next }) =
+    record { wrote = put_one (info_token a.p.now) (wrote c.put_info.ensures.buf_after c.put_info.ensures.place_after); goes = goes-here a.s.now a.next c.requires.1 } in
+    elim c.in-3.is [ inl e ↦ rw e put | inr e ↦ rw e put ]
 
 pub returns-in-4 : goal.returns-in-4
 unfolding pieces_of
@@ -38,4 +38,5 @@ returns-in-5 c = rw c.in-5.is c.put_cell.ensures
 pub returns-in_default : goal.returns-in_default
 unfolding pieces_of
 returns-in_default c = let a = c.args in
-    simp (ne_eqb _ _ c.in_default.in_default-own.rest.0.0.0.0.1, ne_eqb _ _ c.in_default.in_default-own.rest.0.0.0.1, ne_eqb _ _ c.in_default.in_default-own.rest.0.0.1, ne_eqb _ _ c.in_default.in_default-own.rest.0.1, ne_eqb _ _ c.in_default.in_default-own.rest.1) (record { wrote = put-none a.buf.now a.at c.requires.0; goes = goes-here a.s.now a.next c.requires.1 })
+    let h = c.in_default.in_default-own.rest in
+    simp (ne_eqb _ _ h.0.0.0.1, ne_eqb a.kind 3 (λ e. h.0.0.1 (inl e)), ne_eqb a.kind 9 (λ e. h.0.0.1 (inr e)), ne_eqb _ _ h.0.1, ne_eqb _ _ h.1) (record { wrote = put-none a.buf.now a.at c.requires.0; goes = goes-here a.s.now a.next c.requires.1 })

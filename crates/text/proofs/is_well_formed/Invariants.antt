@@ -1,14 +1,12 @@
--- `text::is_well_formed` meets its contract. The loop's invariant: the text is UTF-16 if the surrogates from `at` on, after a high
+-- `text::is_well_formed` meets its contract. The loop's invariant: the text is UTF-16 if the surrogates that are left, after a high
 -- one where `high` says so, are in pairs. Assumes nothing.
 use Rattle.text.proofs.Scan.{after}
-use Prim.Native.Nat.{◌-◌, ◌≤◌}
-use Rattle.text.specs.Surrogates.{paired, surrogates, well_formed}
+use Rattle.text.specs.Surrogates.{paired, surrogate_of, well_formed}
+use Rattle.wire.specs.Le.{le_at}
 use mathlib.Core.Path.{◌≡◌}
-use lib.ListN.{length, drop}
+use mathlib.Core.List.{map}
+use lib.ListN.{drop}
 use Rattle.text.proofs.is_well_formed.Given as goal
 
-abbrev pub invariant-loop-at : goal.invariant-loop-at
-invariant-loop-at l = (l.at ≤ length l.s) × (paired (after l.high (surrogates (drop l.at l.s))) ≡ well_formed l.s)
-
-abbrev pub decreases-loop-at : goal.decreases-loop-at
-decreases-loop-at l = length l.s - l.at
+abbrev pub invariant-loop-pair : goal.invariant-loop-pair
+invariant-loop-pair l = paired (after l.high (map surrogate_of (map (le_at 2) (drop l.pair-index l.units)))) ≡ well_formed l.s

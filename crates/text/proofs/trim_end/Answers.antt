@@ -1,20 +1,20 @@
--- `text::trim_end` meets its contract. The loop's invariant: of the first `n` units as many are kept as of all. Assumes nothing.
-use Rattle.text.proofs.Trims.{kept_at, kept-none, kept-all}
-use mathlib.Core.Path.{sym, ◌∙◌}
+-- `text::trim_end` meets its contract. The loop's invariant: of the units that are left as many are kept as of all. Assumes nothing.
+use mathlib.Core.Path.{ap}
+use Prim.Native.Nat.{◌*◌}
 use native.Mathlib.Omega.{arith}
-use borrow.Author.Rules.{rules}
+use Rattle.text.specs.Trim.{kept}
+use Rattle.text.proofs.Twos.{kept-turn, kept-none}
 use Rattle.text.proofs.trim_end.Goals as goal
 
-pub loop-n-init : goal.loop-n-init
-loop-n-init c = (search rules, kept-all c.args.s.now)
+pub loop-pair-init : goal.loop-pair-init
+loop-pair-init c = ap kept c.pairs-units.ensures.value
 
 pub returns-then-not-is_whitespace : goal.returns-then-not-is_whitespace
-returns-then-not-is_whitespace c = let s = c.args.s.now in
-    omega (arith, kept_at s c.loop-n.n (omega arith) (omega arith) c.unit.ensures c.is_whitespace.ensures c.if-not-is_whitespace.true)
+returns-then-not-is_whitespace c =
+    omega (arith, c.in-Some.ensures.cases.1, kept-turn c.in-Some.before.now c.in-Some.pair.now c.in-Some.ensures.cases.0 c.unit.ensures c.is_whitespace.ensures c.if-not-is_whitespace.true c.loop-pair.invariant)
 
-pub loop-n-preserved : goal.loop-n-preserved
-loop-n-preserved c = let s = c.args.s.now in
-    (search rules, sym (kept_at s c.loop-n.n (omega arith) (omega arith) c.unit.ensures c.is_whitespace.ensures c.if-not-is_whitespace.false) ∙ c.loop-n.invariant.1)
+pub loop-pair-preserved : goal.loop-pair-preserved
+loop-pair-preserved c = kept-turn c.in-Some.before.now c.in-Some.pair.now c.in-Some.ensures.cases.0 c.unit.ensures c.is_whitespace.ensures c.if-not-is_whitespace.false c.loop-pair.invariant
 
 pub returns : goal.returns
-returns c = omega (arith, kept-none c.args.s.now c.loop-n.n (omega arith))
+returns c = ap (λ n. 2 * n) (kept-none c.loop-pair.units.now c.in_default.ensures.cases c.loop-pair.invariant)

@@ -1,7 +1,7 @@
 -- `text::unit` meets its contract. Assumes nothing.
-use Rattle.text.proofs.Scan.{unit-at}
-use native.Mathlib.Omega.{arith}
+use mathlib.Core.Path.{◌∙◌}
+use Rattle.text.proofs.Twos.{two}
 use Rattle.text.proofs.unit.Goals as goal
 
 pub returns : goal.returns
-returns c = let a = c.args in unit-at a.s.now a.at (omega arith) c.u16_from_le_bytes.ensures
+returns c = c.from_le_bytes.ensures ∙ two c.args.pair.now

@@ -21,7 +21,7 @@ returns-in-Ok-None c = let a = c.args in
 pub returns-then-i-lt-MAX_COLUMNS : goal.returns-then-i-lt-MAX_COLUMNS
 returns-then-i-lt-MAX_COLUMNS c = let a = c.args in
     let e = rw (c.in-Ok-Some.is, c.in-Ok-Some.field-0-is, ← c.in-Ok-Some.got-is) at (stepped a.packets.now a.self c.held_in.ensures c.got_at.ensures) in
-    let t = by_token a.packets.now a.self _ e (placed a.self _ _ _ _ _ _ _ _ c.in-Column.is c.minus-i.ensures c.spot_after-next.ensures) in
+    let t = by_token a.packets.now a.self _ e (placed a.self _ _ _ _ _ _ _ _ c.in-Column.is c.saturating_sub-i.ensures c.spot_after-next.ensures) in
     record { answer = ap (λ (s : StepOf). s.answer) t; next = ap (λ (s : StepOf). s.next) t }
 
 pub returns-else-i-lt-MAX_COLUMNS : goal.returns-else-i-lt-MAX_COLUMNS
@@ -29,7 +29,7 @@ returns-else-i-lt-MAX_COLUMNS c = let a = c.args in
     let types : length a.self.types ≡ 128 = search (rules, c.well_formed) in
     let limits : length a.self.limits ≡ 128 = search (rules, c.well_formed) in
     let e = rw (c.in-Ok-Some.is, c.in-Ok-Some.field-0-is, ← c.in-Ok-Some.got-is) at (stepped a.packets.now a.self c.held_in.ensures c.got_at.ensures) in
-    let t = by_token a.packets.now a.self _ e (past a.self _ _ _ _ _ _ _ _ c.in-Column.is c.minus-i.ensures c.spot_after-next.ensures (omega arith) (omega arith)) in
+    let t = by_token a.packets.now a.self _ e (past a.self _ _ _ _ _ _ _ _ c.in-Column.is c.saturating_sub-i.ensures c.spot_after-next.ensures (omega arith) (omega arith)) in
     record { answer = ap (λ (s : StepOf). s.answer) t; next = ap (λ (s : StepOf). s.next) t }
 
 pub returns-in_default : goal.returns-in_default
