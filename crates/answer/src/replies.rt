@@ -4,9 +4,9 @@ ghost use Rattle.payload.specs.Frames.{lies};
 
 use crate::lines;
 use cells::Value;
-use payload::frames::{Frame, Reached, Spotted};
-use payload::{frames, minus};
-use reader::{Answer, Position, Token};
+use itoa::Buffer;
+use payload::frames::{self, Frame};
+use reader::{Position, Token};
 use std::io;
 use std::io::Write;
 use wire::Part;
@@ -30,8 +30,8 @@ pub(crate) fn answer(packets: &[u8], places: bool, out: &mut impl Write) -> io::
 // The payload of packets, joined as far as their headers pass: how many bytes of the buffer it has.
 fn payload_of(packets: &[u8], joined: &mut [u8]) -> usize {
     match frames::resolve(packets, 1, packet::PACKET_HEADER_SIZE) {
-        Spotted::Refused(_) => 0,
-        Spotted::At(frame, _) => join_from(packets, frame, joined),
+        Ok(here) => join_from(packets, here.frame, joined),
+        Err(_) => 0,
     }
 }
 
@@ -43,12 +43,8 @@ fn join_from(packets: &[u8], first: Frame, joined: &mut [u8]) -> usize
     for _ in 0..packets.len() {
         wire::put_slice(joined, frame.base, payload_in(packets, frame));
         match frames::reach(packets, frame, frame.end, 1) {
-            Reached::Past(_) => {
-                return frame.end;
-            },
-            Reached::In(next) => {
-                frame = next;
-            },
+            Ok(next) => frame = next,
+            Err(_) => return frame.end,
         }
     }
     frame.end
@@ -58,8 +54,8 @@ fn join_from(packets: &[u8], first: Frame, joined: &mut [u8]) -> usize
 fn payload_in(packets: &[u8], frame: Frame) -> &[u8]
     requires { lies packets.now frame ≡ true }
 {
-    let len = minus(frame.end, frame.base);
-    let start = minus(frame.end + 8 * frame.number, len);
+    let len = frame.end.saturating_sub(frame.base);
+    let start = (frame.end + 8 * frame.number).saturating_sub(len);
     wire::part_of(packets, Part { start, len })
 }
 
@@ -69,15 +65,9 @@ fn run(packets: &[u8], payload: &[u8], places: bool, out: &mut impl Write) -> io
     for _ in 0..MOST_STEPS {
         let step = position.step(packets);
         match step.answer {
-            Answer::Token(token) => {
-                token_line(payload, places, token, out)?;
-            }
-            Answer::End => {
-                return lines::text(out, b"end\n");
-            }
-            Answer::Refused(number) => {
-                return lines::refused(out, number);
-            }
+            Ok(Some(token)) => token_line(payload, places, token, out)?,
+            Ok(None) => return lines::text(out, b"end\n"),
+            Err(refusal) => return lines::refused(out, refusal),
         }
         position = step.next;
     }
@@ -175,20 +165,9 @@ pub(crate) fn cell_line(
 
 // A number with its sign in decimal, after a space.
 fn signed(out: &mut impl Write, n: i64) -> io::Result<()> {
-    if n >= 0 {
-        return lines::number(out, magnitude(n));
-    }
-    lines::text(out, b" -")?;
-    lines::decimal(out, magnitude(n))
-}
-
-// A number without its sign; that of the least number is no i64, so one is added after the cast.
-fn magnitude(n: i64) -> u64 {
-    if n >= 0 {
-        n as u64
-    } else {
-        ((0 - (n + 1)) as u64) + 1
-    }
+    let mut digits = Buffer::new();
+    lines::text(out, b" ")?;
+    lines::text(out, digits.format(n).as_bytes())
 }
 
 // The two parts that a line ends with.
@@ -241,8 +220,7 @@ fn chunk_length(held: &[u8], at: usize) -> usize
     ensures { 4 + at + result ≤ length held.now }
 {
     let len = wire::get_u32_le(held, at) as usize;
-    let rest = held.len() - at - CHUNK_LENGTH;
-    if len < rest { len } else { rest }
+    len.min(held.len() - at - CHUNK_LENGTH)
 }
 
 // @START+LENGTH, after a space, where places are asked for.

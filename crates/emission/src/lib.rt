@@ -122,7 +122,7 @@ fn record_fault(kind: u16, p: &[u8]) -> Result<(), Refusal>
     if kind == script::COLUMN {
         return column_fault(p);
     }
-    if p.len() == 0 {
+    if p.is_empty() {
         Err(Refusal::EmptyChunk)
     } else {
         Ok(())

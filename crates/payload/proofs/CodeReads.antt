@@ -5,9 +5,9 @@ use mathlib.Core.Bool.{Bool, true, false, cond, ◌&&◌}
 use Prim.Native.Nat.{ℕ, ◌+◌, ◌-◌, ◌*◌, ◌/◌, ◌≤◌, ◌<◌, ◌^◌}
 use native.Mathlib.Nat.{lt_of_lt_of_le, pow-le-pow_right}
 use native.Mathlib.Omega.{arith}
-use lib.Dec.{leb, eqb}
+use lib.Dec.{leb}
 use lib.ListN.{length, drop}
-use borrow.Author.Tests.{le-leb, lt-leb, eq-eqb, ne_eqb, eqb-true}
+use borrow.Author.Tests.{le-leb, lt-leb}
 use Rattle.wire.proofs.Cases.{split, clash}
 use Rattle.wire.specs.Le.{le_at}
 use Rattle.wire.specs.declared.Part.{Part}
@@ -74,20 +74,6 @@ module _ {A : Type 0} (k : ℕ) (src : Source) (at : ℕ) where
   part_then go = cond-then go (leb (at + k) (length src.bytes)) src.stop _ _
 
 -- ---- the leaves
-
--- nothing is asked for where both numbers are 0
-pub none-asked : (a b : ℕ) → (eqb a 0 && eqb b 0) ≡ true → eqb (a + b) 0 ≡ true
-none-asked a b e = let w = and-true (eqb a 0) (eqb b 0) e in eq-eqb (a + b) 0 (omega (arith, eqb-true a 0 w.0, eqb-true b 0 w.1))
-
-pub some-asked : (a b : ℕ) → (eqb a 0 && eqb b 0) ≡ false → eqb (a + b) 0 ≡ false
-some-asked a b e = ne_eqb (a + b) 0 (λ q. let x : a ≡ 0 = omega arith in let y : b ≡ 0 = omega arith in let z : (eqb a 0 && eqb b 0) ≡ true = rw (x, y) in clash (cc))
-
--- n bytes stand after a place where they are not more than what is left
-pub reaches : (at n len : ℕ) → at ≤ len → leb n (len - at) ≡ leb (at + n) len
-reaches at n len h =
-    split (at + n) len
-    (λ l. let k : n ≤ len - at = omega arith in rw (le-leb n (len - at) k, le-leb (at + n) len l))
-    (λ l. let k : len - at < n = omega arith in rw (lt-leb n (len - at) k, lt-leb (at + n) len l))
 
 -- k headers stand after e bytes where they are not more than an eighth of what is left
 pub eighths : (e k len : ℕ) → e ≤ len → leb k ((len - e) / 8) ≡ leb (e + 8 * k) len

@@ -183,6 +183,7 @@ pub(crate) fn first(lent: &[u8]) -> Result<Frame, Stop>
 }
 
 // The packet after a frame's.
+#[tactic(auto, using(crate::proofs::Onto::lying))]
 pub(crate) fn onward(lent: &[u8], frame: Frame) -> Result<Frame, Stop>
     requires { lies lent.now frame ≡ true }
     ensures { stopped result ≡ moved_of lent.now frame }
@@ -199,6 +200,7 @@ pub(crate) fn onward(lent: &[u8], frame: Frame) -> Result<Frame, Stop>
 }
 
 // The payload place of a position's packet and place in it: the headers up to that packet are tested, each once.
+#[tactic(auto, using(crate::proofs::Onto::lying))]
 pub fn resolve(lent: &[u8], packet: usize, place: usize) -> Result<Spotted, Refusal>
     ensures { numbered result ≡ spot_in (packets_in lent.now) packet place }
 {

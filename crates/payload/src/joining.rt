@@ -72,6 +72,7 @@ fn copy_payload(lent: &[u8], buf: &mut [u8])
 }
 
 // The payload of a frame's packet, at its place of the buffer.
+#[tactic(auto, using(crate::proofs::Onto::lying))]
 fn copy_packet(lent: &[u8], frame: Frame, buf: &mut [u8])
     requires { (lies lent.now frame ≡ true) × (frame.base ≤ frame.end) }
     ensures { buf.new ≡ overwrite buf.old frame.base (take (frame.end - frame.base) (drop (frame.base + 8 * frame.number) lent.now)) }

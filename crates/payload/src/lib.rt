@@ -135,10 +135,3 @@ pub fn part_at(lent: &[u8], frame: Frame, at: usize, n: usize) -> Result<PartAt,
         next: at + n,
     })
 }
-
-// What is left of a number where some is taken; nothing where more is.
-pub fn minus(a: usize, b: usize) -> usize
-    ensures { result ≡ a - b }
-{
-    a.saturating_sub(b)
-}

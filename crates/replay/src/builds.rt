@@ -8,8 +8,8 @@ type Told = Option<Result<usize, Refusal>>;
 
 pub(crate) fn holds(line: &[u8], name: &[u8]) -> bool {
     let mut buf = spaces::patterned();
-    let lent = words::u64_at(line, 1) as usize;
-    match build_lent(line, name, &mut buf, lent) {
+    let lent = buf.len().min(words::u64_at(line, 1) as usize);
+    match build(line, name, &mut buf[..lent]) {
         Some(Ok(len)) => is_written(line, &buf, len),
         Some(Err(refusal)) => is_refused(line, &buf, refusal),
         None => false,
@@ -30,13 +30,6 @@ pub(crate) fn is_refused(line: &[u8], buf: &[u8], refusal: Refusal) -> bool {
     let mut out = [0u8; 32];
     let n = told::refused(&mut out, 0, refusal);
     words::answer(line) == wire::part_of(&out, calls::first(n))
-}
-
-fn build_lent(line: &[u8], name: &[u8], buf: &mut [u8], lent: usize) -> Told {
-    if lent < buf.len() {
-        return build(line, name, &mut buf[..lent]);
-    }
-    build(line, name, buf)
 }
 
 // Builders by the beginning of their names.

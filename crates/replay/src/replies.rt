@@ -1,7 +1,7 @@
 // The reply reader: a run from the fresh position, its tokens one after the other.
 use crate::told;
 use cells::Value;
-use reader::{Answer, Position, Token};
+use reader::{Position, Token};
 
 // No run takes more steps: a token takes a byte or more, packets have at most 131,072, and then come end or refusal.
 const MOST_STEPS: usize = 131073;
@@ -13,15 +13,9 @@ pub(crate) fn tokens(packets: &[u8], out: &mut [u8]) -> usize {
     for _ in 0..MOST_STEPS {
         let step = position.step(packets);
         match step.answer {
-            Answer::Token(token) => {
-                at = tell_token(token, out, at);
-            }
-            Answer::End => {
-                return told::word(out, at, b"end");
-            }
-            Answer::Refused(number) => {
-                return told::refused(out, at, number);
-            }
+            Ok(Some(token)) => at = tell_token(token, out, at),
+            Ok(None) => return told::word(out, at, b"end"),
+            Err(refusal) => return told::refused(out, at, refusal),
         }
         position = step.next;
     }
@@ -102,29 +96,12 @@ pub(crate) fn tell_cell(value: Value, out: &mut [u8], at: usize) -> usize {
     match value {
         Value::Number(n) => {
             let at = told::word(out, at, b"num");
-            tell_signed(n, out, at)
+            told::number(out, at, n)
         },
         Value::Part(held) => {
             told::words(out, at, b"part", &[held.start as u64, held.len as u64])
         },
         Value::Max(held) => { told::words(out, at, b"max", &[held.start as u64, held.len as u64]) },
         Value::Null => told::word(out, at, b"null"),
-    }
-}
-
-fn tell_signed(n: i64, out: &mut [u8], at: usize) -> usize {
-    if n >= 0 {
-        return told::number(out, at, magnitude(n));
-    }
-    let at = told::word(out, at, b"-");
-    told::digits(out, at, magnitude(n))
-}
-
-// A number without its sign; that of the least number is no i64, so one is added after the cast.
-fn magnitude(n: i64) -> u64 {
-    if n >= 0 {
-        n as u64
-    } else {
-        ((0 - (n + 1)) as u64) + 1
     }
 }

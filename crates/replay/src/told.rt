@@ -1,6 +1,6 @@
 // What a call answered, as the list writes it: words with a space between them, to a lent buffer from a place on.
 // Each function answers the place after its word.
-use itoa::Buffer;
+use itoa::{Buffer, Integer};
 use refusals::Refusal;
 
 // A word as it is.
@@ -18,15 +18,9 @@ fn space(out: &mut [u8], at: usize) -> usize {
 }
 
 // A number in decimal.
-pub(crate) fn number(out: &mut [u8], at: usize, n: u64) -> usize {
-    let at = space(out, at);
-    digits(out, at, n)
-}
-
-// Its digits alone.
-pub(crate) fn digits(out: &mut [u8], at: usize, n: u64) -> usize {
-    let mut spelled = Buffer::new();
-    wire::put_slice(out, at, spelled.format(n).as_bytes())
+pub(crate) fn number<I: Integer>(out: &mut [u8], at: usize, n: I) -> usize {
+    let mut digits = Buffer::new();
+    word(out, at, digits.format(n).as_bytes())
 }
 
 pub(crate) fn numbers(out: &mut [u8], from: usize, values: &[u64]) -> usize {
@@ -50,5 +44,5 @@ pub(crate) fn refused(out: &mut [u8], at: usize, refusal: Refusal) -> usize {
 
 // The value of a test: 1 or 0.
 pub(crate) fn flag(test: bool) -> u64 {
-    if test { 1 } else { 0 }
+    u64::from(test)
 }

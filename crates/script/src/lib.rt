@@ -186,7 +186,7 @@ fn cell_shaped(p: &[u8]) -> bool
         2 => p.len() == 3,
         3 => p.len() == 5,
         4 => p.len() == 9,
-        5 => !(p.len() % 2 == 0),
+        5 => p.len() % 2 != 0,
         _ => (6 <= value) & (value <= 10) & (p.len() == 1),
     }
 }
@@ -207,7 +207,7 @@ fn chunk_shaped(stage: Stage, p: &[u8]) -> bool
 fn error_shaped(p: &[u8]) -> bool
     ensures { result ≡ error_shaped p.now }
 {
-    (5 <= p.len()) & !(p.len() % 2 == 0)
+    (5 <= p.len()) & (p.len() % 2 != 0)
 }
 
 // Whether a payload has the shape of its kind, which may stand at a stage. Arms that say the same stand apart here and
@@ -221,7 +221,7 @@ fn is_shaped(stage: Stage, kind: u16, p: &[u8]) -> bool
         COLUMN => column_shaped(p),
         INFO => info_shaped(p),
         TRAILING_INFO => info_shaped(p),
-        ROW => p.len() == 0,
+        ROW => p.is_empty(),
         CELL => cell_shaped(p),
         CHUNK => chunk_shaped(stage, p),
         _ => error_shaped(p),
@@ -324,7 +324,7 @@ fn row_fault(stage: Stage, p: &[u8]) -> Result<(), Refusal>
     if !is_allowed(stage, ROW) {
         return Err(Refusal::KindWrong);
     }
-    if p.len() == 0 {
+    if p.is_empty() {
         Ok(())
     } else {
         Err(Refusal::ShapeWrong)

@@ -10,7 +10,6 @@ ghost use Rattle.station.specs.Steps.{code_of, length_of, first_of, position_of,
 
 use crate::slots::{answered, refused};
 use cells::Value;
-use payload::minus;
 use reader::{HeldTypes, MAX_COLUMNS, Spot, Token, got_at, spot_after};
 use refusals::Refusal;
 use wire::Part;
@@ -52,7 +51,7 @@ pub extern "C" fn station_step(packets: &[u8], position: &mut [u64], out: &mut [
     let at = spot_in(position);
     match got_at(packets, at, held_in(position, at)) {
         Ok(Some(got)) => {
-            let columns = minus(at.count, at.columns_left);
+            let columns = at.count.saturating_sub(at.columns_left);
             let next = spot_after(at, got.token, got.packet, got.place);
             move_on(got.token, columns, next, position, out)
         },
@@ -99,9 +98,9 @@ fn held_in(slots: &[u64], at: Spot) -> HeldTypes
     requires { at ≡ spot_of (position_of slots.now) }
     ensures { result ≡ held_in (position_of slots.now) }
 {
-    let slot = type_slot(slots, minus(at.count, at.cells_left));
+    let slot = type_slot(slots, at.count.saturating_sub(at.cells_left));
     HeldTypes {
-        sound: are_types(slots, minus(at.count, at.columns_left)),
+        sound: are_types(slots, at.count.saturating_sub(at.columns_left)),
         code: code_of(slot),
         limit: (slot % CODE) as u16,
     }
@@ -124,7 +123,7 @@ fn are_types(slots: &[u64], n: usize) -> bool
     if MAX_COLUMNS < n {
         return false;
     }
-    if minus(slots.len(), FIRST_TYPE) < n {
+    if slots.len().saturating_sub(FIRST_TYPE) < n {
         return false;
     }
     for i in 0..n {

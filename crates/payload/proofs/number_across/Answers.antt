@@ -12,12 +12,6 @@ returns-then-not-lies c = (across-nowhere _ _ _ _ (sym c.lies.ensures ∙ c.if-n
 pub loop-i-init : goal.loop-i-init
 loop-i-init c = across-begins _ _ _ _ (sym c.lies.ensures ∙ c.if-not-lies.false) (omega arith)
 
-pub overflow_add-at : goal.overflow_add-at
-overflow_add-at c = omega (arith, c.loop-i.invariant.fits)
-
-pub walk-requires : goal.walk-requires
-walk-requires c = c.loop-i.invariant.lies
-
 pub returns-in_err-here : goal.returns-in_err-here
 returns-in_err-here c =
     let p = err_from_is_err_and c.from_residual.result c.from_residual.ensures.1 in
@@ -32,17 +26,11 @@ overflow_add-at-in-loop-i-2 c = omega (arith, byte-within _ _ _ (rw c.in_ok-here
 pub bounds-lent-at : goal.bounds-lent-at
 bounds-lent-at c = byte-within _ _ _ (rw c.in_ok-here.was at (sym c.walk.ensures))
 
-pub worth-value-requires : goal.worth-value-requires
-worth-value-requires c = omega (arith, c.requires.1, c.loop-i-test.true)
-
 pub overflow_add-value : goal.overflow_add-value
 overflow_add-value c = omega (arith, across-room c.loop-i.invariant c.loop-i-test.true (rw c.in_ok-here.was at (sym c.walk.ensures)) c.worth-value.ensures.0 c.worth-value.ensures.1 c.requires.1)
 
 pub loop-i-preserved : goal.loop-i-preserved
 loop-i-preserved c = across-more c.loop-i.invariant c.loop-i-test.true (rw c.in_ok-here.was at (sym c.walk.ensures)) c.worth-value.ensures.0 c.worth-value.ensures.1 (omega arith)
-
-pub overflow_add-result : goal.overflow_add-result
-overflow_add-result c = omega (arith, c.loop-i.invariant.fits, c.loop-i.invariant.summed.within)
 
 pub returns : goal.returns
 returns c = across-ends c.loop-i.invariant c.requires.0 c.loop-i-test.false

@@ -4,4 +4,4 @@ use Rattle.payload.proofs.Reach.{reach-lies}
 use Rattle.answer.proofs.replies.join_from.Goals as goal
 
 pub loop-preserved : goal.loop-preserved
-loop-preserved c = reach-lies _ _ _ c.loop.invariant (sym c.in-In.ensures)
+loop-preserved c = reach-lies _ _ _ c.loop.invariant (sym c.in-Ok.ensures)

@@ -6,4 +6,12 @@ use Rattle.packet.proofs.PacketHeader.write.Goals as goal
 
 pub returns : goal.returns
 unfolding header_bytes
-returns c = record { buf_after = rw (sym c.byte.ensures) (((then (then (then (then (then (wrote c.put_u8-next.ensures.buf_after c.put_u8-next.ensures.place_after) (wrote c.put_u8-next-2.ensures.buf_after c.put_u8-next-2.ensures.place_after)) (wrote c.put_u16-next.ensures.buf_after c.put_u16-next.ensures.place_after)) (wrote c.put_u16-next-2.ensures.buf_after c.put_u16-next-2.ensures.place_after)) (wrote c.put_u8-next-3.ensures.buf_after c.put_u8-next-3.ensures.place_after)) (wrote c.put_u8.ensures.buf_after c.put_u8.ensures.place_after))).0); place_after = rw (sym c.byte.ensures) (((then (then (then (then (then (wrote c.put_u8-next.ensures.buf_after c.put_u8-next.ensures.place_after) (wrote c.put_u8-next-2.ensures.buf_after c.put_u8-next-2.ensures.place_after)) (wrote c.put_u16-next.ensures.buf_after c.put_u16-next.ensures.place_after)) (wrote c.put_u16-next-2.ensures.buf_after c.put_u16-next-2.ensures.place_after)) (wrote c.put_u8-next-3.ensures.buf_after c.put_u8-next-3.ensures.place_after)) (wrote c.put_u8.ensures.buf_after c.put_u8.ensures.place_after))).1) }
+returns c =
+    let kind = wrote c.put_u8-next.ensures.buf_after c.put_u8-next.ensures.place_after in
+    let status = wrote c.put_u8-next-2.ensures.buf_after c.put_u8-next-2.ensures.place_after in
+    let len = wrote c.put_u16-next.ensures.buf_after c.put_u16-next.ensures.place_after in
+    let spid = wrote c.put_u16-next-2.ensures.buf_after c.put_u16-next-2.ensures.place_after in
+    let number = wrote c.put_u8-next-3.ensures.buf_after c.put_u8-next-3.ensures.place_after in
+    let window = wrote c.put_u8.ensures.buf_after c.put_u8.ensures.place_after in
+    let all = rw c.byte.ensures at (then (then (then (then (then kind status) len) spid) number) window) in
+    record { buf_after = all.0; place_after = all.1 }

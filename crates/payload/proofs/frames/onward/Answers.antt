@@ -8,15 +8,6 @@ use Rattle.payload.proofs.Onto.{lying, moved_by_lem}
 use Rattle.payload.proofs.Walk.{fits}
 use Rattle.payload.proofs.frames.onward.Goals as goal
 
-pub overflow_add-number : goal.overflow_add-number
-overflow_add-number c = let a = c.args in omega (arith, lying a.lent.now a.frame c.requires)
-
-pub overflow_mul-frame : goal.overflow_mul-frame
-overflow_mul-frame c = let a = c.args in omega (arith, lying a.lent.now a.frame c.requires)
-
-pub overflow_add-base : goal.overflow_add-base
-overflow_add-base c = let a = c.args in omega (arith, lying a.lent.now a.frame c.requires)
-
 pub returns-in_err-next : goal.returns-in_err-next
 returns-in_err-next c =
     let p = err_from_is_err_and c.from_residual.result c.from_residual.ensures.1 in

@@ -5,9 +5,3 @@ use Rattle.payload.proofs.frames.reach.Goals as goal
 
 pub returns-then-not-lies : goal.returns-then-not-lies
 returns-then-not-lies c = reach-nowhere _ _ _ (sym c.lies.ensures ∙ c.if-not-lies.true) c.nowhere.ensures
-
-pub walk-requires : goal.walk-requires
-walk-requires c = sym c.lies.ensures ∙ c.if-not-lies.false
-
-pub returns : goal.returns
-returns c = c.walk.ensures

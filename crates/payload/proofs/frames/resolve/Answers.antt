@@ -40,26 +40,5 @@ loop-number-preserved c =
     let e = held-of c.packet_at.result c.map_err-in-loop-number.ensures.cases c.in_ok-next.was in
     walking_on c.loop-number.invariant c.loop-number-test.true (sym (rw e at c.packet_at.ensures))
 
-pub returns-then-packet-eq0 : goal.returns-then-packet-eq0
-returns-then-packet-eq0 c = sym (c.loop-number.invariant.walked.none c.if-packet-eq0.true)
-
-pub overflow_sub-frame : goal.overflow_sub-frame
-overflow_sub-frame c = c.loop-number.invariant.some
-
-pub overflow_mul-frame : goal.overflow_mul-frame
-overflow_mul-frame c = omega (arith, lying _ _ c.loop-number.invariant.walked.lies)
-
-pub overflow_sub-frame-2 : goal.overflow_sub-frame-2
-overflow_sub-frame-2 c = c.loop-number.invariant.from
-
-pub overflow_mul-frame-2 : goal.overflow_mul-frame-2
-overflow_mul-frame-2 c = omega (arith, lying _ _ c.loop-number.invariant.walked.lies)
-
-pub overflow_sub-frame-3 : goal.overflow_sub-frame-3
-overflow_sub-frame-3 c = c.loop-number.invariant.past
-
-pub within-requires : goal.within-requires
-within-requires c = c.loop-number.invariant.walked.some
-
 pub returns : goal.returns
 returns c = walk_ends _ _ c.loop-number.invariant.walked c.loop-number-test.false c.if-packet-eq0.false c.within.ensures

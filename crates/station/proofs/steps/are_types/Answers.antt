@@ -9,12 +9,12 @@ use Rattle.station.proofs.steps.are_types.Goals as goal
 pub returns-then-n-gt-MAX_COLUMNS : goal.returns-then-n-gt-MAX_COLUMNS
 returns-then-n-gt-MAX_COLUMNS c = let a = c.args in held-over a.slots.now a.n c.if-n-gt-MAX_COLUMNS.true
 
-pub returns-then-minus-n : goal.returns-then-minus-n
-returns-then-minus-n c = let a = c.args in held-short a.slots.now a.n (omega arith) (omega (arith, c.minus.ensures, c.if-minus-n.true))
+pub returns-then-saturating_sub-n : goal.returns-then-saturating_sub-n
+returns-then-saturating_sub-n c = let a = c.args in held-short a.slots.now a.n (omega arith) (omega (arith, c.saturating_sub.ensures, c.if-saturating_sub-n.true))
 
 pub loop-i-init : goal.loop-i-init
 unfolding held
-loop-i-init c = (search rules, search rules, omega (arith, c.minus.ensures, c.if-minus-n.false), refl)
+loop-i-init c = (search rules, search rules, omega (arith, c.saturating_sub.ensures, c.if-saturating_sub-n.false), refl)
 
 pub returns-then-not-is_type : goal.returns-then-not-is_type
 returns-then-not-is_type c = let l = c.loop-i in let a = c.args in held-fails a.slots.now a.n l.i (omega arith) (omega (arith, l.invariant.1)) (sym c.is_type.ensures ∙ c.if-not-is_type.true)

@@ -17,14 +17,14 @@ move_on-requires c = let a = c.args in
     let f = rw (c.in-Ok-Some.is, c.in-Ok-Some.field-0-is, ← c.in-Ok-Some.got-is) at (found a.position.now a.out.now a.packets.now c.spot_in-at.ensures c.held_in.ensures c.got_at.ensures refl) in
     let q = few a.packets.now (position_of a.position.now) (sym (ap (λ (s : StepOf). s.answer) f)) in
     let e = ap (λ (a : Spot). a.count) c.spot_in-at.ensures in
-    omega (arith, q, e, c.minus-columns.ensures)
+    omega (arith, q, e, c.saturating_sub-columns.ensures)
 
 pub returns-in-Ok-Some : goal.returns-in-Ok-Some
 returns-in-Ok-Some c = let a = c.args in
     let q = passed a.out.now c.move_on.type_inv (c.move_on.ensures.value, c.move_on.ensures.out_after) refl in
     let p = c.spot_in-at.ensures in
     let f = rw (c.in-Ok-Some.is, c.in-Ok-Some.field-0-is, ← c.in-Ok-Some.got-is) at (found a.position.now a.out.now a.packets.now c.spot_in-at.ensures c.held_in.ensures c.got_at.ensures refl) in
-    let w = told a.position.now a.out.now a.packets.now f refl (after-found a.position.now a.out.now a.packets.now _ _ _ p c.spot_after-next.ensures) (c.minus-columns.ensures ∙ ap (λ (x : Spot). x.count - x.columns_left) p) (q.0, (c.move_on.ensures.position_after, q.1)) in
+    let w = told a.position.now a.out.now a.packets.now f refl (after-found a.position.now a.out.now a.packets.now _ _ _ p c.spot_after-next.ensures) (c.saturating_sub-columns.ensures ∙ ap (λ (x : Spot). x.count - x.columns_left) p) (q.0, (c.move_on.ensures.position_after, q.1)) in
     record { value = w.0; position_after = w.1.0; out_after = w.1.1 }
 
 pub returns-in-Ok-None : goal.returns-in-Ok-None
