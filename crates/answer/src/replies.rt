@@ -4,7 +4,6 @@ ghost use Rattle.payload.specs.Frames.{lies};
 
 use crate::lines;
 use cells::Value;
-use itoa::Buffer;
 use payload::frames::{self, Frame};
 use reader::{Position, Token};
 use std::io;
@@ -165,9 +164,7 @@ pub(crate) fn cell_line(
 
 // A number with its sign in decimal, after a space.
 fn signed(out: &mut impl Write, n: i64) -> io::Result<()> {
-    let mut digits = Buffer::new();
-    lines::text(out, b" ")?;
-    lines::text(out, digits.format(n).as_bytes())
+    write!(out, " {n}")
 }
 
 // The two parts that a line ends with.
@@ -228,8 +225,5 @@ fn place(places: bool, held: Part, out: &mut impl Write) -> io::Result<()> {
     if !places {
         return Ok(());
     }
-    lines::text(out, b" @")?;
-    lines::decimal(out, held.start as u64)?;
-    lines::text(out, b"+")?;
-    lines::decimal(out, held.len as u64)
+    write!(out, " @{}+{}", held.start, held.len)
 }
