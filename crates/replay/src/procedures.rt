@@ -31,9 +31,7 @@ fn tell_procedure(procedure: Procedure, out: &mut [u8]) -> usize {
 
 fn tell_statement(statement: Option<Part>, out: &mut [u8], at: usize) -> usize {
     match statement {
-        Some(part) => {
-            told::words(out, at, b"statement", &[part.start as u64, part.len as u64])
-        },
+        Some(part) => { told::words(out, at, b"statement", &[part.start as u64, part.len as u64]) },
         None => at,
     }
 }
