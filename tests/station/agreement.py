@@ -34,7 +34,6 @@ ONE_EACH = (
     ("NULL_LABEL", "crates/station/src/labels.rt", "NULL_LABEL", 0),
     ("LOGIN_SLOTS", "crates/station/src/logins.rt", "LOGIN_SLOTS", 0),
     ("NO_BYTE", "crates/station/src/logins.rt", "NO_BYTE", 0),
-    ("NO_ACK", "crates/station/src/build.rt", "NO_ACK", 0),
     ("RPC_EXECUTESQL", "crates/rpc/src/lib.rt", "SP_EXECUTESQL", 0),
     ("POSITION_SLOTS", "crates/reader/src/lib.rt", "MAX_COLUMNS", 6),
     ("DONE_MORE", "crates/reader/src/lib.rt", "MORE", 0),
@@ -105,6 +104,14 @@ def one_each(root, constants):
             yield f"STATION_{name}: {constants.get(f'STATION_{name}')} in the header, {other} {there} in {file}"
 
 
+def no_byte(root, constants):
+    """The code takes a number for an acknowledgement where it is a byte (`u8::try_from`), so none is from the next one on."""
+    if "u8::try_from(ack).ok()" not in (root / "crates/station/src/build.rt").read_text():
+        yield "STATION_NO_ACK: crates/station/src/build.rt does not go by whether an acknowledgement is a byte"
+    if constants.get("STATION_NO_ACK") != 0xFF + 1:
+        yield f"STATION_NO_ACK: {constants.get('STATION_NO_ACK')} in the header, not the least number that is no byte"
+
+
 def covered(root, constants):
     """Constants of a crate that the header has to name, and does not."""
     for file, prefix, form, left_out in (
@@ -123,5 +130,5 @@ def problems(root, library):
     yield from constants_differ("include/station.rs", constants, rust_constants)
     yield from functions_differ("crates/station", header, declared.of_crate(root / "crates/station/src"))
     yield from names_differ("the library", header, declared.symbols(library))
-    for compared in (by_name, by_case, one_each, covered):
+    for compared in (by_name, by_case, one_each, no_byte, covered):
         yield from compared(root, constants)
