@@ -73,7 +73,7 @@ def row(program, case, group, ours_time, rust_time, growth):
     growth.setdefault((kind, "ours"), []).append((per, ours))
     growth.setdefault((kind, "Rust"), []).append((per, rust))
     return [*cells, f"{ours:,}", f"{rust:,}", f"{ours / rust:.2f}", table.microseconds(ours_time),
-            table.microseconds(rust_time), f"{ours_time / rust_time:.2f}", f"{ours / per:.2f}", f"{rust / per:.2f}"]
+            table.microseconds(rust_time), table.ratio(ours_time, rust_time), f"{ours / per:.2f}", f"{rust / per:.2f}"]
 
 
 def measured(chosen):

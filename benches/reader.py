@@ -132,7 +132,7 @@ def row(case, columns, rows, counted, took, peer, growth):
     theirs, their_time = peer
     growth.setdefault((kind, "pytds"), []).append((size, theirs))
     return [*cells, f"{theirs:,}", f"{each / theirs:.2f}", table.microseconds(took), table.microseconds(their_time),
-            f"{took / their_time:.2f}", *own, f"{theirs / count:,.0f}", f"{each / size:,.2f}"]
+            table.ratio(took, their_time), *own, f"{theirs / count:,.0f}", f"{each / size:,.2f}"]
 
 
 def has_pytds():

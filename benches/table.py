@@ -50,9 +50,16 @@ def least(what, times):
 
 
 def microseconds(nanoseconds):
-    """With as many digits as a time of its size is worth."""
+    """With as many digits as a time of its size is worth; `-` where the clock's steps are too long to tell it."""
+    if nanoseconds <= 0:
+        return "-"
     time = nanoseconds / 1000
     return f"{time:,.{3 if time < 1 else 2 if time < 100 else 1}f}"
+
+
+def ratio(time, other):
+    """A time beside another, `-` where the clock's steps are too long to tell one of them."""
+    return f"{time / other:.2f}" if time > 0 and other > 0 else "-"
 
 
 def show(heads, rows):

@@ -1,4 +1,4 @@
-/* The smallest unit, without a C library: the reply of a bare set, with a memcpy, a memmove and an entry of its own. Its exit status
+/* The smallest unit, without a C library: the reply of a bare set, with a memcpy and an entry of its own. Its exit status
  * is 0 where the reply has its 24 bytes. Linux on x86-64. */
 #include "station.h"
 
@@ -9,18 +9,6 @@ void *memcpy(void *restrict to, const void *restrict from, size_t count)
 {
     for (size_t i = 0; i < count; i++)
         ((uint8_t *)to)[i] = ((const uint8_t *)from)[i];
-    return to;
-}
-
-void *memmove(void *to, const void *from, size_t count)
-{
-    uint8_t *t = to;
-    const uint8_t *f = from;
-
-    for (size_t i = 0; t < f && i < count; i++)
-        t[i] = f[i];
-    for (size_t i = count; t > f && i > 0; i--)
-        t[i - 1] = f[i - 1];
     return to;
 }
 

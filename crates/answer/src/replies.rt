@@ -145,7 +145,7 @@ pub(crate) fn cell_line(
     match value {
         Value::Number(n) => {
             lines::text(out, b"num")?;
-            signed(out, n)?;
+            lines::number(out, n)?;
             lines::end(out)
         },
         Value::Part(held) => {
@@ -160,11 +160,6 @@ pub(crate) fn cell_line(
         },
         Value::Null => lines::text(out, b"null\n"),
     }
-}
-
-// A number with its sign in decimal, after a space.
-fn signed(out: &mut impl Write, n: i64) -> io::Result<()> {
-    write!(out, " {n}")
 }
 
 // The two parts that a line ends with.
@@ -225,5 +220,8 @@ fn place(places: bool, held: Part, out: &mut impl Write) -> io::Result<()> {
     if !places {
         return Ok(());
     }
-    write!(out, " @{}+{}", held.start, held.len)
+    lines::text(out, b" @")?;
+    lines::decimal(out, held.start)?;
+    lines::text(out, b"+")?;
+    lines::decimal(out, held.len)
 }

@@ -220,13 +220,41 @@ fn part_header(number: usize, last: bool, len: usize) -> PacketHeader
     }
 }
 
+// The bytes of a block, which are moved at once.
+const BLOCK: usize = 32;
+
+// A block of a buffer moved down in it: all of it is read before a byte is written.
+fn move_block(buf: &mut [u8], to: usize, from: usize)
+    requires { (to ≤ from) × (from + 32 ≤ length buf.old) }
+    ensures { buf.new ≡ overwrite buf.old to (take 32 (drop from buf.old)) }
+{
+    let mut block = [0u8; BLOCK];
+    block.copy_from_slice(&buf[from..from + BLOCK]);
+    buf[to..to + BLOCK].copy_from_slice(&block);
+}
+
+// Bytes of a buffer moved down in it, by blocks and the rest one by one. The library's `copy_within` would be a call of `memmove`,
+// which nothing else here needs.
+fn move_bytes(buf: &mut [u8], to: usize, from: usize, len: usize)
+    requires { (to ≤ from) × (from + len ≤ length buf.old) }
+    ensures { buf.new ≡ overwrite buf.old to (take len (drop from buf.old)) }
+{
+    let blocks = len / BLOCK;
+    for n in 0..blocks {
+        move_block(buf, to + n * BLOCK, from + n * BLOCK);
+    }
+    for i in blocks * BLOCK..len {
+        buf[to + i] = buf[from + i];
+    }
+}
+
 // Bytes that stand further on in the writer's buffer, moved down to its place; those that stand where they belong are left.
 fn move_down(w: &mut Writer, from: usize, len: usize)
     requires { (w.old.at ≤ from) × (from + len ≤ length w.old.buf.now) }
     ensures { Puts w.old (take len (drop from w.old.buf.now)) w.new }
 {
     if w.at != from {
-        w.buf.copy_within(from..from + len, w.at);
+        move_bytes(w.buf, w.at, from, len);
     }
     w.at += len;
 }

@@ -33,15 +33,20 @@ pub(crate) fn is_refused(line: &[u8], buf: &[u8], refusal: Refusal) -> bool {
     words::answer(line) == wire::part_of(&out, calls::first(n))
 }
 
-// Builders by the beginning of their names.
+// What a builder builds: the word of its name after `build_`.
+fn built(name: &[u8]) -> &[u8] {
+    words::before(&name[6.min(name.len())..], b'_')
+}
+
+// Builders by what they build.
 fn build(line: &[u8], name: &[u8], buf: &mut [u8]) -> Told {
-    if name.starts_with(b"build_query_") {
+    if built(name) == b"query".as_slice() {
         return build_result(line, name, buf);
     }
     if name == b"cut_payload".as_slice() {
         return cut(line, buf);
     }
-    if name.starts_with(b"build_prelogin_") {
+    if built(name) == b"prelogin".as_slice() {
         return build_prelogin(line, name, buf);
     }
     build_fixed(line, name, buf)
@@ -167,7 +172,7 @@ fn build_first(line: &[u8], name: &[u8], one: &[u8], buf: &mut [u8]) -> Told {
 // Builders of two texts, or of a text and a list.
 fn build_second(line: &[u8], name: &[u8], one: &[u8], buf: &mut [u8]) -> Told {
     let mut space = spaces::zeros();
-    if name.starts_with(b"build_fedauth_") {
+    if built(name) == b"fedauth".as_slice() {
         let n = words::bytes_at(line, 3, &mut space);
         return build_fedauth(name, one, wire::part_of(&space, calls::first(n)), buf);
     }

@@ -6,7 +6,8 @@ ghost use Rattle.station.specs.Answer.{answers, answers_part, refuses, number_of
 use refusals::Refusal;
 use wire::Part;
 
-// The last step of an export that has slots, after all its other refusals: its number, and the values of the first slots.
+// The last step of an export that has slots, after all its other refusals: its number, and the values of the first slots. A loop, since
+// `copy_from_slice` would be a call of `memmove`.
 pub(crate) fn answered(out: &mut [u64], number: usize, values: &[u64]) -> i64
     requires { number < 2 ^ 63 }
     ensures value { result ≡ answer_of (answers number values.now) out.old }
@@ -15,7 +16,9 @@ pub(crate) fn answered(out: &mut [u64], number: usize, values: &[u64]) -> i64
     if out.len() < values.len() {
         return refused(Refusal::BufferTooShort.number());
     }
-    out[..values.len()].copy_from_slice(values);
+    for (i, value) in values.iter().enumerate() {
+        out[i] = *value;
+    }
     number as i64
 }
 

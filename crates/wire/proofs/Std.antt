@@ -112,3 +112,14 @@ le-get at l =
     split (length l) at
     (λ h. le-past 1 at l h ∙ sym (get_or_past l at 0 h))
     (λ h. le-one at l h)
+
+-- as many bytes, each of which is that of the list, or 0
+pub first-each : (k : ℕ) (bytes l : List ℕ) → length bytes ≡ k → ((i : ℕ) → i < k → get_or bytes i 0 ≡ get_or l i 0) → bytes ≡ first k l
+unfolding first
+first-each zero [] l e each = refl
+first-each zero (b ∷ bytes) l e each = absurd (omega arith)
+first-each (suc k) [] l e each = absurd (omega arith)
+first-each (suc k) (b ∷ bytes) [] e each =
+    rw (each 0 (omega arith)) (ap (λ (m : List ℕ). 0 ∷ m) (first-each k bytes [] (omega arith) (λ i h. each (suc i) (omega arith) ∙ sym (get_or_past [] i 0 (omega arith)))))
+first-each (suc k) (b ∷ bytes) (x ∷ l) e each =
+    rw (each 0 (omega arith)) (ap (λ (m : List ℕ). x ∷ m) (first-each k bytes l (omega arith) (λ i h. each (suc i) (omega arith))))

@@ -56,7 +56,7 @@ pub fn u32_from_le_bytes(b0: u8, b1: u8, b2: u8, b3: u8) -> u32
     u32::from_le_bytes([b0, b1, b2, b3])
 }
 
-// The bytes at a place; one past the end is 0.
+// The bytes at a place; one past the end is 0. Where some are, each is read by itself: a copy of the others would be a call of `memcpy`.
 fn bytes_at<const N: usize>(s: &[u8], at: usize) -> [u8; N]
     ensures { result ≡ first N (drop at s.now) }
 {
@@ -65,7 +65,9 @@ fn bytes_at<const N: usize>(s: &[u8], at: usize) -> [u8; N]
         Some(bytes) => *bytes,
         None => {
             let mut bytes = [0; N];
-            put_slice(&mut bytes, 0, rest);
+            for i in 0..N {
+                bytes[i] = get_u8(rest, i);
+            }
             bytes
         }
     }
@@ -92,7 +94,8 @@ pub fn get_u32_le(s: &[u8], at: usize) -> u32
 pub fn get_u64_le(s: &[u8], at: usize) -> u64
     ensures { result ≡ le_at 8 (drop at s.now) }
 {
-    u64::from_le_bytes(bytes_at(s, at))
+    let bytes: [u8; 8] = bytes_at(s, at);
+    u64::from_le_bytes(bytes)
 }
 
 // A big-endian number: the highest byte first.
@@ -143,21 +146,26 @@ pub fn put_u16(buf: &mut [u8], at: usize, v: u16) -> usize
     put_bytes(buf, at, v.to_be_bytes())
 }
 
-// The bytes of a number; with room for all of them their count is a constant, which is one store.
+// The bytes of a number; with room for all of them their count is a constant, which is one store, and else each is put by itself.
 fn put_bytes<const N: usize>(buf: &mut [u8], at: usize, bytes: [u8; N]) -> usize
     requires { 0 < N }
     ensures buf_after { buf.new ≡ overwrite buf.old at bytes.entry }
     ensures place_after { PlaceAfter buf.old at bytes.entry result }
 {
     if left(buf, at) < N {
-        return put_slice(buf, at, &bytes);
+        let mut next = at.min(buf.len());
+        for i in 0..N {
+            next = put_u8(buf, next, bytes[i]);
+        }
+        return next;
     }
     let end = at + N;
     buf[at..end].copy_from_slice(&bytes);
     end
 }
 
-// The bytes of src, copied: what lies past the end of buf is left out.
+// The bytes of src, copied: what lies past the end of buf is left out. A loop, since `copy_from_slice` of a length that is no constant
+// is a call of `memmove`, which whoever links the library would have to bring.
 pub fn put_slice(buf: &mut [u8], at: usize, src: &[u8]) -> usize
     ensures buf_after { buf.new ≡ overwrite buf.old at src.now }
     ensures place_after { PlaceAfter buf.old at src.now result }
@@ -166,7 +174,8 @@ pub fn put_slice(buf: &mut [u8], at: usize, src: &[u8]) -> usize
     if n == 0 {
         return at.min(buf.len());
     }
-    let end = at + n;
-    buf[at..end].copy_from_slice(&src[..n]);
-    end
+    for (i, byte) in src[..n].iter().enumerate() {
+        buf[at + i] = *byte;
+    }
+    at + n
 }

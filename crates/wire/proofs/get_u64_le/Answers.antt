@@ -5,4 +5,4 @@ use Rattle.wire.proofs.Std.{le-std}
 use Rattle.wire.proofs.get_u64_le.Goals as goal
 
 pub returns : goal.returns
-returns c = let a = c.args in rw c.bytes_at.ensures at c.from_le_bytes.ensures ∙ le-std 7 (drop a.at a.s.now)
+returns c = let a = c.args in rw c.bytes_at-bytes.ensures at c.from_le_bytes.ensures ∙ le-std 7 (drop a.at a.s.now)
