@@ -44,7 +44,9 @@ fn measured(call: &mut dyn FnMut()) {
 /// The answer of a call, and the median of its time in nanoseconds.
 fn timed<T>(call: &mut dyn FnMut() -> T) -> (T, f64) {
     let answer = call();
-    let calls = (SAMPLE.as_nanos() as f64 / sample(call, 1).max(1.0)).ceil() as usize;
+    // A clock in steps may tell 0 for the first call.
+    let once = sample(call, 1).max(1.0);
+    let calls = (SAMPLE.as_nanos() as f64 / once).ceil() as usize;
     let mut times: Vec<f64> = (0..SAMPLES).map(|_| sample(call, calls)).collect();
     times.sort_by(f64::total_cmp);
     (answer, times[SAMPLES / 2])

@@ -50,7 +50,7 @@ pub(crate) fn word(out: &mut impl Write, n: u16) -> io::Result<()> {
     bytes(out, &[(n / 256) as u8, (n % 256) as u8])
 }
 
-// Bytes in upper-case hexadecimal: eight at a time, and the rest digit by digit, since a `write!` for a byte takes twice as long.
+// Bytes in upper-case hexadecimal: eight at a time, the rest digit by digit (a `write!` for each byte takes up to twice as long).
 pub(crate) fn digits(out: &mut impl Write, s: &[u8]) -> io::Result<()> {
     let (eights, rest) = s.as_chunks();
     for eight in eights {
